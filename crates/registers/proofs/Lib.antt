@@ -1,0 +1,4 @@
+pub mod FieldLaws
+pub mod FlagOrder
+pub mod Over
+pub mod ShiftAndMask

@@ -1,0 +1,12 @@
+-- `registers::cr1::Cr1::interrupts` meets its contract: its fields are put one after the other.
+use Rattle.registers.specs.Words.{interrupts}
+use borrow.Author.Needs.{needs}
+use Rattle.registers.proofs.cr1.Cr1.interrupts.Statement.{statement}
+use Rattle.registers.proofs.cr1.Cr1.interrupts.Tie as tie
+
+returns : tie.Need-returns
+unfolding interrupts
+returns c = cc
+
+pub interrupts-spec : {M : Type 1} → statement M
+interrupts-spec = tie.close (tie.spec (λ c κs. search needs) (λ c κs. search needs) (λ c κs. search needs) (λ c κs. search needs) (λ c κs. search needs) (λ c κs. search needs) (λ c κs. search needs) (λ c κs. search needs) returns)

@@ -1,0 +1,12 @@
+-- `registers::oar::Oar2::own_second` meets its contract: its fields are put one after the other.
+use Rattle.registers.specs.Words.{ownSecond}
+use borrow.Author.Needs.{needs}
+use Rattle.registers.proofs.oar.Oar2.own_second.Statement.{statement}
+use Rattle.registers.proofs.oar.Oar2.own_second.Tie as tie
+
+returns : tie.Need-returns
+unfolding ownSecond
+returns c = cc
+
+pub own-second-spec : {M : Type 1} → statement M
+own-second-spec = tie.close (tie.spec (λ c κs. search needs) (λ c κs. search needs) (λ c κs. search needs) (λ c κs. search needs) returns)

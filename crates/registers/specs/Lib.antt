@@ -1,0 +1,7 @@
+pub mod Access
+pub mod Answers
+pub mod Config
+pub mod Field
+pub mod Flags
+pub mod Layout
+pub mod Words

@@ -1,0 +1,19 @@
+//! The player over the original Rust, the drawing of scripts and the comparing
+//! of outcomes. `GRAMMAR.md` gives the text format.
+
+pub mod answer;
+pub mod call;
+pub mod compare;
+mod config;
+pub mod draw;
+pub mod exhaust;
+mod lexis;
+mod link;
+mod parse;
+pub mod player;
+mod random;
+mod reader;
+mod refusals;
+mod run;
+mod unwaited;
+mod waiting;
