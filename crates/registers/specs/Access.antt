@@ -1,14 +1,13 @@
 -- Register accesses, the log that they are written to, and the words that a call reads.
-use Prim.Native.Nat.{ℕ, suc, _+_, _*_}
+use Prim.Native.Nat.{ℕ, suc, _+_}
 use mathlib.Core.Path.{_≡_}
 use mathlib.Core.Bool.{Bool, cond}
 use mathlib.Core.List.{List, [], _∷_}
 use lib.ListN.{length}
-use lib.Dec.{ltb, leb}
-use Rattle.registers.specs.declared.access.Room.{Room}
-use Rattle.registers.specs.declared.access.Room.the-variants.{Enough, OutOfWords, LogFull}
+use lib.Dec.{leb}
+use Rattle.registers.specs.declared.access.Report.{Report}
 use Rattle.registers.specs.Layout.{Register, offset}
-use Rattle.registers.specs.Answers.{Said, says}
+use Rattle.registers.specs.Answers.{Said, says, said}
 
 -- a register is read or written, with the word
 pub data Access : Type 0 where
@@ -32,16 +31,35 @@ over [] ys = ys
 over (x ∷ xs) [] = []
 over (x ∷ xs) (y ∷ ys) = x ∷ over xs ys
 
--- 9 goes before 10: a word for each read, and two places for each access
-abbrev pub roomFor : ℕ → ℕ → ℕ → ℕ → Room
-roomFor words places wanted accesses = cond (ltb words wanted) OutOfWords (cond (ltb places (2 * accesses)) LogFull Enough)
-
-abbrev pub saidRoom : Room → Said
-saidRoom Enough = says 0 []
-saidRoom OutOfWords = says 9 []
-saidRoom LogFull = says 10 []
-
 -- the log after numbers were to be written from its first place on: all of them, or none where they do not fit
 pub record Logged (numbers before : List ℕ) (fits : Bool) (after : List ℕ) : Type 0 where
   pub room : fits ≡ leb (length numbers) (length before)
   pub log : after ≡ cond fits (over numbers before) before
+
+-- what comes of a call that never waits, where its accesses are known
+pub record Settled : Type 0 where
+  pub answer : Said
+  -- how many words it takes
+  pub taken : ℕ
+  -- what it writes to the log
+  pub numbers : List ℕ
+
+abbrev pub refusal : ℕ → Settled
+refusal number = record { answer = says number []; taken = 0; numbers = [] }
+
+-- it is tried for 9 over all its reads, then for 10 over all its accesses; a refusal takes and writes nothing
+abbrev pub settle : Said → ℕ → List ℕ → ℕ → ℕ → Settled
+settle answer wanted numbers words places =
+    cond (leb wanted words)
+    (cond (leb (length numbers) places) (record { answer = answer; taken = wanted; numbers = numbers }) (refusal 10))
+    (refusal 9)
+
+abbrev pub settled : Said → List Access → ℕ → ℕ → Settled
+settled answer accesses words places = settle answer (reads accesses) (entries accesses) words places
+
+-- a report and the log after the call are what was settled
+pub record Reported (s : Settled) (before : List ℕ) (r : Report) (after : List ℕ) : Type 0 where
+  pub answer : said (r .answer) ≡ s .answer
+  pub taken : r .taken ≡ s .taken
+  pub logged : r .logged ≡ length (s .numbers)
+  pub log : after ≡ over (s .numbers) before

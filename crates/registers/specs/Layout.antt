@@ -1,6 +1,7 @@
 -- The registers of the I2C unit, as RM0444 lays them out: byte offsets, and first and last bit of each field.
 use Prim.Native.Nat.{ℕ, _+_, _-_}
 use mathlib.Core.Bool.{Bool}
+use mathlib.Core.List.{List, [], _∷_, map}
 use Rattle.registers.specs.declared.field.Field.{Field}
 use Rattle.registers.specs.Field.{get, put, isSet}
 
@@ -17,6 +18,9 @@ offset ISR = 0x18
 offset ICR = 0x1C
 offset RXDR = 0x24
 offset TXDR = 0x28
+
+abbrev pub offsets : List ℕ
+offsets = map offset (CR1 ∷ CR2 ∷ OAR1 ∷ OAR2 ∷ TIMINGR ∷ ISR ∷ ICR ∷ RXDR ∷ TXDR ∷ [])
 
 pub data Name : Type 0 where
   PE TXIE RXIE ADDRIE NACKIE STOPIE TCIE ERRIE DNF ANFOFF SBC : Name

@@ -4,15 +4,16 @@ ghost use Prim.Native.Nat.{_*_, _%_};
 ghost use mathlib.Core.Bool.{true, false};
 ghost use Rattle.registers.specs.Words.{started, sized, refused, stopped, starting, sadd8, sadd16};
 use crate::field::Field;
-use crate::field::digit;
 use crate::field::low_byte;
 
 pub struct Cr2;
 
 impl Cr2 {
-    pub const READ: u32 = 0x04;
+    pub const OFFSET: u32 = 0x04;
 
-    pub const WRITE: u32 = 0x100 + Cr2::READ;
+    pub const READ: u32 = Cr2::OFFSET;
+
+    pub const WRITE: u32 = Cr2::OFFSET + 0x100;
 
     pub const SADD: Field = Field {
         place: 0,
@@ -87,8 +88,8 @@ impl Cr2 {
         let start = Cr2::START.put(cr2, 1);
         let length = Cr2::NBYTES.put(start, low_byte(nbytes));
         let address = Cr2::SADD.put(length, sadd);
-        let direction = Cr2::RD_WRN.put(address, digit(read));
-        let end = Cr2::AUTOEND.put(direction, digit(autoend));
+        let direction = Cr2::RD_WRN.switch(address, read);
+        let end = Cr2::AUTOEND.switch(direction, autoend);
         Cr2::RELOAD.put(end, 0)
     }
 
@@ -97,7 +98,7 @@ impl Cr2 {
         ensures { λ r. ⌜ r ≡ sized cr2 nbytes reload ⌝ }
     {
         let length = Cr2::NBYTES.put(cr2, low_byte(nbytes));
-        Cr2::RELOAD.put(length, digit(reload))
+        Cr2::RELOAD.switch(length, reload)
     }
 
     // One more byte is taken and refused: the answer to TCR.

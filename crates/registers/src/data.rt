@@ -6,7 +6,9 @@ use crate::field::Field;
 pub struct Rxdr;
 
 impl Rxdr {
-    pub const READ: u32 = 0x24;
+    pub const OFFSET: u32 = 0x24;
+
+    pub const READ: u32 = Rxdr::OFFSET;
 
     pub const RXDATA: Field = Field { place: 0, width: 8 };
 
@@ -20,7 +22,9 @@ impl Rxdr {
 pub struct Txdr;
 
 impl Txdr {
-    pub const WRITE: u32 = 0x128;
+    pub const OFFSET: u32 = 0x28;
+
+    pub const WRITE: u32 = Txdr::OFFSET + 0x100;
 
     pub const TXDATA: Field = Field { place: 0, width: 8 };
 

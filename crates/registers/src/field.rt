@@ -62,19 +62,22 @@ impl Field {
         word & !(ones(self.inside()) << self.place)
     }
 
+    // The word with a field of one bit set or cleared.
+    pub fn switch(self, word: u32, on: bool) -> u32
+        ensures { λ r. ⌜ r ≡ put word self (digit on) ⌝ }
+    {
+        if on {
+            return self.put(word, 1);
+        }
+        self.clear(word)
+    }
+
     // Whether a field of one bit is set.
     pub fn is_set(self, word: u32) -> bool
         ensures { λ r. ⌜ r ≡ isSet word self ⌝ }
     {
         self.get(word) == 1
     }
-}
-
-// A bool as a bit.
-pub fn digit(on: bool) -> u32
-    ensures { λ r. ⌜ r ≡ digit on ⌝ }
-{
-    if on { 1 } else { 0 }
 }
 
 // The low 8 bits of a length, as the Rust casts it for NBYTES.

@@ -45,9 +45,11 @@ pub enum Found {
 pub struct Isr;
 
 impl Isr {
-    pub const READ: u32 = 0x18;
+    pub const OFFSET: u32 = 0x18;
 
-    pub const WRITE: u32 = 0x100 + Isr::READ;
+    pub const READ: u32 = Isr::OFFSET;
+
+    pub const WRITE: u32 = Isr::OFFSET + 0x100;
 
     pub const TXE: Field = Field { place: 0, width: 1 };
 
@@ -209,7 +211,9 @@ impl Wanted {
 pub struct Icr;
 
 impl Icr {
-    pub const WRITE: u32 = 0x11C;
+    pub const OFFSET: u32 = 0x1C;
+
+    pub const WRITE: u32 = Icr::OFFSET + 0x100;
 
     // The word that clears a flag, at the flag's own place in ISR.
     pub fn cleared(flag: Field) -> u32

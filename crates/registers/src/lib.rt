@@ -8,5 +8,6 @@ pub mod cr2;
 pub mod data;
 pub mod field;
 pub mod isr;
+pub mod layout;
 pub mod oar;
 pub mod timingr;

@@ -4,12 +4,13 @@ ghost use Rattle.registers.specs.Words.{ownSeven, ownTen, ownSecond};
 ghost use Rattle.registers.specs.Config.{maskNumber};
 use crate::config::SlaveAddressMask;
 use crate::field::Field;
-use crate::field::digit;
 
 pub struct Oar1;
 
 impl Oar1 {
-    pub const WRITE: u32 = 0x108;
+    pub const OFFSET: u32 = 0x08;
+
+    pub const WRITE: u32 = Oar1::OFFSET + 0x100;
 
     pub const OA1: Field = Field {
         place: 0,
@@ -33,8 +34,8 @@ impl Oar1 {
         ensures { λ r. ⌜ r ≡ ownSeven address mode enabled ⌝ }
     {
         let own = Oar1::OA1_7_1.put(0, address as u32);
-        let moded = Oar1::OA1MODE.put(own, digit(mode));
-        Oar1::OA1EN.put(moded, digit(enabled))
+        let moded = Oar1::OA1MODE.switch(own, mode);
+        Oar1::OA1EN.switch(moded, enabled)
     }
 
     // The low ten bits of an address, as the non-blocking driver writes them.
@@ -50,7 +51,9 @@ impl Oar1 {
 pub struct Oar2;
 
 impl Oar2 {
-    pub const WRITE: u32 = 0x10C;
+    pub const OFFSET: u32 = 0x0C;
+
+    pub const WRITE: u32 = Oar2::OFFSET + 0x100;
 
     pub const OA2: Field = Field { place: 1, width: 7 };
 

@@ -2,5 +2,7 @@
 pub struct Timingr;
 
 impl Timingr {
-    pub const WRITE: u32 = 0x110;
+    pub const OFFSET: u32 = 0x10;
+
+    pub const WRITE: u32 = Timingr::OFFSET + 0x100;
 }

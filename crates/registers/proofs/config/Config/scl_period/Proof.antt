@@ -19,4 +19,4 @@ unfolding period
 returns c = cc
 
 pub scl-period-spec : {M : Type 1} → statement M
-scl-period-spec = tie.close (tie.spec (λ c κs. search needs) (λ c κs. search needs) (λ c κs. search needs) (λ c. search needs) (λ c. search needs) (λ c. search needs) mul-result returns)
+scl-period-spec = tie.close (tie.spec (λ c κs. tt) (λ c κs. tt) (λ c κs. tt) (λ c. search needs) (λ c. search needs) (λ c. search needs) mul-result returns)

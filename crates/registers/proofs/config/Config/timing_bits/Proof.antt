@@ -17,4 +17,4 @@ unfolding timingBits
 returns-3 c = cc
 
 pub timing-bits-spec : {M : Type 1} → statement M
-timing-bits-spec = tie.close (tie.spec (λ c. search needs) (λ c. search needs) (λ c. search needs) (λ c κs. search needs) (λ c. search needs) returns returns-2 returns-3)
+timing-bits-spec = tie.close (tie.spec (λ c. search needs) (λ c. search needs) (λ c. search needs) (λ c κs. tt) (λ c. search needs) returns returns-2 returns-3)

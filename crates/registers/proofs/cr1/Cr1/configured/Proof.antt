@@ -1,6 +1,5 @@
 -- `registers::cr1::Cr1::configured` meets its contract: its fields are put one after the other.
 use Rattle.registers.specs.Words.{configured}
-use borrow.Author.Needs.{needs}
 use Rattle.registers.proofs.cr1.Cr1.configured.Statement.{statement}
 use Rattle.registers.proofs.cr1.Cr1.configured.Tie as tie
 
@@ -9,4 +8,4 @@ unfolding configured
 returns c = cc
 
 pub configured-spec : {M : Type 1} → statement M
-configured-spec = tie.close (tie.spec (λ c κs. search needs) (λ c κs. search needs) (λ c κs. search needs) (λ c κs. search needs) returns)
+configured-spec = tie.close (tie.spec (λ c κs. tt) (λ c κs. tt) (λ c κs. tt) returns)

@@ -1,6 +1,5 @@
 -- `registers::cr2::Cr2::refused` meets its contract: its fields are put one after the other.
 use Rattle.registers.specs.Words.{refused}
-use borrow.Author.Needs.{needs}
 use Rattle.registers.proofs.cr2.Cr2.refused.Statement.{statement}
 use Rattle.registers.proofs.cr2.Cr2.refused.Tie as tie
 
@@ -9,4 +8,4 @@ unfolding refused
 returns c = cc
 
 pub refused-spec : {M : Type 1} → statement M
-refused-spec = tie.close (tie.spec (λ c κs. search needs) (λ c κs. search needs) returns)
+refused-spec = tie.close (tie.spec (λ c κs. tt) (λ c κs. tt) returns)

@@ -2,15 +2,12 @@
 use Rattle.registers.specs.Layout.{place, NBYTES}
 use Rattle.registers.specs.Words.{sized}
 use Rattle.registers.proofs.FieldLaws.{put-low}
-use borrow.Author.Needs.{needs}
 use Rattle.registers.proofs.cr2.Cr2.sized.Statement.{statement}
 use Rattle.registers.proofs.cr2.Cr2.sized.Tie as tie
 
 returns : tie.Need-returns
 unfolding sized
-returns c =
-    let s = c .before .before .before .before in
-    cc (put-low (s .args .cr2) (place NBYTES) (s .args .nbytes))
+returns c = cc (put-low (c .before .before .before .args .cr2) (place NBYTES) (c .before .before .before .args .nbytes))
 
 pub sized-spec : {M : Type 1} → statement M
-sized-spec = tie.close (tie.spec (λ c κs. search needs) (λ c κs. search needs) (λ c κs. search needs) (λ c κs. search needs) returns)
+sized-spec = tie.close (tie.spec (λ c κs. tt) (λ c κs. tt) (λ c κs. tt) returns)

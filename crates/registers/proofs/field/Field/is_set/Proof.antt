@@ -1,5 +1,4 @@
 -- `registers::field::Field::is_set` meets its contract.
-use borrow.Author.Needs.{needs}
 use Rattle.registers.specs.Field.{isSet}
 use Rattle.registers.proofs.field.Field.is_set.Statement.{statement}
 use Rattle.registers.proofs.field.Field.is_set.Tie as tie
@@ -9,4 +8,4 @@ unfolding isSet
 returns c = rw (c .get .ensures .0)
 
 pub is-set-spec : {M : Type 1} → statement M
-is-set-spec = tie.close (tie.spec (λ c κs. search needs) returns)
+is-set-spec = tie.close (tie.spec (λ c κs. tt) returns)

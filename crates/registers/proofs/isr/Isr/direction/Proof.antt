@@ -1,7 +1,6 @@
 -- `registers::isr::Isr::direction` meets its contract.
 use mathlib.Core.Path.{_≡_, sym, _∙_}
 use Rattle.registers.specs.Flags.{directionOf}
-use borrow.Author.Needs.{needs}
 use Rattle.registers.proofs.isr.Isr.direction.Statement.{statement}
 use Rattle.registers.proofs.isr.Isr.direction.Tie as tie
 
@@ -14,4 +13,4 @@ unfolding directionOf
 returns-2 c = rw (sym (c .before .is-set .ensures) ∙ c .if1 .left)
 
 pub direction-spec : {M : Type 1} → statement M
-direction-spec = tie.close (tie.spec (λ c κs. search needs) returns returns-2)
+direction-spec = tie.close (tie.spec (λ c κs. tt) returns returns-2)

@@ -1,6 +1,5 @@
 -- `registers::isr::Isr::first_late` meets its contract: each test is one of the definition's.
 use mathlib.Core.Path.{_≡_, sym, _∙_}
-use borrow.Author.Needs.{needs}
 use Rattle.registers.proofs.isr.Isr.first_late.Statement.{statement}
 use Rattle.registers.proofs.isr.Isr.first_late.Tie as tie
 
@@ -17,4 +16,4 @@ returns-4 : tie.Need-returns-4
 returns-4 c = rw (sym (c .before .before .before .before .before .is-set .ensures) ∙ c .before .before .before .before .if1 .left, sym (c .before .before .before .is-set2 .ensures) ∙ c .before .before .if2 .left, sym (c .before .is-set3 .ensures) ∙ c .if3 .left)
 
 pub first-late-spec : {M : Type 1} → statement M
-first-late-spec = tie.close (tie.spec (λ c κs. search needs) returns (λ c κs. search needs) returns-2 (λ c κs. search needs) returns-3 returns-4)
+first-late-spec = tie.close (tie.spec (λ c κs. tt) returns (λ c κs. tt) returns-2 (λ c κs. tt) returns-3 returns-4)

@@ -1,7 +1,6 @@
 -- `registers::isr::Isr::found_in` meets its contract: each test is one of the definition's.
 use mathlib.Core.Path.{_≡_, sym, _∙_}
 use Rattle.registers.specs.Flags.{foundIn}
-use borrow.Author.Needs.{needs}
 use Rattle.registers.proofs.isr.Isr.found_in.Statement.{statement}
 use Rattle.registers.proofs.isr.Isr.found_in.Tie as tie
 
@@ -38,4 +37,4 @@ unfolding foundIn
 returns-8 c = rw (sym (c .before .before .before .before .before .before .before .before .before .before .before .before .before .is-set .ensures) ∙ c .before .before .before .before .before .before .before .before .before .before .before .before .if1 .left, sym (c .before .before .before .before .before .before .before .before .before .before .before .is-set2 .ensures) ∙ c .before .before .before .before .before .before .before .before .before .before .if2 .left, sym (c .before .before .before .before .before .before .before .before .before .is-set3 .ensures) ∙ c .before .before .before .before .before .before .before .before .if3 .left, sym (c .before .before .before .before .before .before .before .is-set4 .ensures) ∙ c .before .before .before .before .before .before .if4 .left, sym (c .before .before .before .before .before .is-set5 .ensures) ∙ c .before .before .before .before .if5 .left, sym (c .before .before .before .is-set6 .ensures) ∙ c .before .before .if6 .left, sym (c .before .is-set7 .ensures) ∙ c .if7 .left)
 
 pub found-in-spec : {M : Type 1} → statement M
-found-in-spec = tie.close (tie.spec (λ c κs. search needs) returns (λ c κs. search needs) returns-2 (λ c κs. search needs) returns-3 (λ c κs. search needs) returns-4 (λ c κs. search needs) returns-5 (λ c κs. search needs) returns-6 (λ c κs. search needs) returns-7 returns-8)
+found-in-spec = tie.close (tie.spec (λ c κs. tt) returns (λ c κs. tt) returns-2 (λ c κs. tt) returns-3 (λ c κs. tt) returns-4 (λ c κs. tt) returns-5 (λ c κs. tt) returns-6 (λ c κs. tt) returns-7 returns-8)

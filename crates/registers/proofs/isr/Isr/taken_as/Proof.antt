@@ -2,7 +2,6 @@
 use mathlib.Core.Path.{_≡_, sym, _∙_}
 use Rattle.registers.specs.Flags.{takenAs}
 use Rattle.registers.proofs.FlagOrder.{grouped}
-use borrow.Author.Needs.{needs}
 use Rattle.registers.proofs.isr.Isr.taken_as.Statement.{statement}
 use Rattle.registers.proofs.isr.Isr.taken_as.Tie as tie
 
@@ -27,4 +26,4 @@ unfolding takenAs
 returns-5 c = rw (grouped (c .before .before .before .before .before .before .before .before .args .isr), sym (c .before .before .before .before .before .before .before .any-fault .ensures) ∙ c .before .before .before .before .before .before .if1 .left, sym (c .before .before .before .before .before .is-set .ensures) ∙ c .before .before .before .before .if2 .left, sym (c .before .before .before .is-set2 .ensures) ∙ c .before .before .if3 .left, sym (c .before .any-late .ensures) ∙ c .if4 .left)
 
 pub taken-as-spec : {M : Type 1} → statement M
-taken-as-spec = tie.close (tie.spec (λ c κs. search needs) (λ c κs. search needs) returns (λ c κs. search needs) returns-2 (λ c κs. search needs) returns-3 (λ c κs. search needs) (λ c κs. search needs) returns-4 returns-5)
+taken-as-spec = tie.close (tie.spec (λ c κs. tt) (λ c κs. tt) returns (λ c κs. tt) returns-2 (λ c κs. tt) returns-3 (λ c κs. tt) (λ c κs. tt) returns-4 returns-5)

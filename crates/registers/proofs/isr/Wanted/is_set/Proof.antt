@@ -13,4 +13,4 @@ returns-3 : tie.Need-returns-3
 returns-3 c = rw (c .before .enum-told3 .given .1) (c .is-set3 .ensures)
 
 pub is-set-spec : {M : Type 1} → statement M
-is-set-spec = tie.close (tie.spec (λ c. search needs) (λ c κs. search needs) (λ c. search needs) (λ c κs. search needs) (λ c. search needs) (λ c κs. search needs) returns returns-2 returns-3)
+is-set-spec = tie.close (tie.spec (λ c. search needs) (λ c κs. tt) (λ c. search needs) (λ c κs. tt) (λ c. search needs) (λ c κs. tt) returns returns-2 returns-3)

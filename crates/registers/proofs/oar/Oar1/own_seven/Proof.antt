@@ -1,6 +1,5 @@
 -- `registers::oar::Oar1::own_seven` meets its contract: its fields are put one after the other.
 use Rattle.registers.specs.Words.{ownSeven}
-use borrow.Author.Needs.{needs}
 use Rattle.registers.proofs.oar.Oar1.own_seven.Statement.{statement}
 use Rattle.registers.proofs.oar.Oar1.own_seven.Tie as tie
 
@@ -9,4 +8,4 @@ unfolding ownSeven
 returns c = cc
 
 pub own-seven-spec : {M : Type 1} → statement M
-own-seven-spec = tie.close (tie.spec (λ c κs. search needs) (λ c κs. search needs) (λ c κs. search needs) (λ c κs. search needs) (λ c κs. search needs) returns)
+own-seven-spec = tie.close (tie.spec (λ c κs. tt) (λ c κs. tt) (λ c κs. tt) returns)
