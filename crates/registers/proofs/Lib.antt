@@ -1,4 +1,5 @@
 pub mod FieldLaws
 pub mod FlagOrder
 pub mod Over
+pub mod Rows
 pub mod ShiftAndMask

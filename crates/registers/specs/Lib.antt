@@ -4,4 +4,5 @@ pub mod Config
 pub mod Field
 pub mod Flags
 pub mod Layout
+pub mod SetUp
 pub mod Words

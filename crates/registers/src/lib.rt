@@ -10,4 +10,5 @@ pub mod field;
 pub mod isr;
 pub mod layout;
 pub mod oar;
+pub mod setup;
 pub mod timingr;

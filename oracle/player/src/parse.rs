@@ -1,6 +1,7 @@
 //! From a line to its call; `None` is a bad line.
 //!
-//! What is decided here beyond SCRIPTS.md (the same in GRAMMAR.md):
+//! What is decided about bad lines (the same in GRAMMAR.md):
+//! - a line of more than 32,768 characters or 4,096 words is one;
 //! - tokens are separated by spaces alone, one or more; spaces may also stand
 //!   first and last; a tab or a carriage return belongs to its token;
 //! - `|` is a token of its own; everything after it is a word;

@@ -132,7 +132,7 @@ fn the_longest_lines() {
     let words = |count: usize| format!("nb check |{}", " 2".repeat(count));
     assert!(!is_bad(&words(4_096)));
     assert!(is_bad(&words(4_097)));
-    let long = |length: usize| format!("{}nb check", " ".repeat(length - 8));
+    let long = |length: usize| format!("nb check{}", " ".repeat(length - 8));
     assert!(!is_bad(&long(32_768)));
     assert!(is_bad(&long(32_769)));
     assert!(is_bad(&long(200_000)));

@@ -96,6 +96,13 @@ fn out_of_words_goes_before_log_full() {
 }
 
 #[test]
+fn untaken_words_are_forgotten() {
+    let script = "bl write 50 01 log=2 | 0 FFFFFFFF 100\nbl resume | 0 200";
+    let resumed = "R 04 00000000\nW 04 020120A0\nR 18 00000200\nW 1C 00000200\n= 4\n";
+    assert_eq!(last(Document, script), resumed);
+}
+
+#[test]
 fn resumed_after_its_end_or_with_nothing_begun() {
     for script in [
         "bl resume | 0",

@@ -7,6 +7,7 @@ use common::both;
 #[test]
 fn fields_keep_their_low_bits() {
     // DNF has four bits, ANFOFF is set for a filter switched off.
+    assert!(both("nb new 0 timing=0 dnf=255 | 0 0").ends_with("W 00 00000F01\n= 0\n"));
     let built = "R 00 00000000\nW 00 00000000\nW 10 FFFFFFFF\nR 00 00000000\nW 00 00001F01\n= 0\n";
     assert_eq!(
         both("bl new 0 timing=FFFFFFFF dnf=255 analog=0 | 0 0"),
@@ -16,6 +17,8 @@ fn fields_keep_their_low_bits() {
     // SADD has ten bits, and a modify keeps all other fields.
     let read = "R 04 00000000\nR 24 00000000\nR 04 FFFFFFFF\nW 04 FEFFFFFE\n= 0\n";
     assert_eq!(both("nb master_read FFFF 255 | 0 0 FFFFFFFF"), read);
+    let read = "R 04 00000000\nR 24 00000000\nR 04 00000000\nW 04 02FF27FE\n= 0\n";
+    assert_eq!(both("nb master_read FFFF 255 | 0 0 0"), read);
     // An own address has seven bits, its place is 1.
     let moved = "W 08 000000FE\nW 08 000080FE\n= 0\n";
     assert_eq!(both("nb set_address FFFF"), moved);
@@ -23,6 +26,21 @@ fn fields_keep_their_low_bits() {
     assert!(both("nb new 0 timing=0 own7raw=100 | 0 0 0").contains("W 08 00008000\n"));
     assert!(both("nb new 0 timing=0 own10=FFFF | 0 0 0").contains("W 08 000087FF\n"));
     assert!(both("bl new 0 timing=0 own2=FF:7 | 0 0 0").contains("W 0C 000087FE\n"));
+}
+
+#[test]
+fn words_that_a_check_reads_and_writes() {
+    // ADDCODE has seven bits; NBYTES is the whole buffer, RELOAD is set.
+    let addressed = "R 18 FFFE0008\nR 04 00000000\nW 04 01FF0000\nW 1C 00000008\n= A 007F 1\n";
+    assert_eq!(both("nb check | FFFE0008 0"), addressed);
+    // RXDR has eight bits.
+    let read = "nb set len=1\nnb check | 4 FFFFFFA5\n";
+    assert_eq!(both(&format!("{read}nb data_s")), "= G A5\n");
+    // A short TC sets STOP, TCR sets NACK with one byte.
+    let short = "R 18 00000040\nR 04 00000000\nW 04 00004000\n= 5 1\n";
+    assert_eq!(both("nb set len=3\nnb check | 40 0"), short);
+    let refused = "R 18 00000080\nR 04 00FF0000\nW 04 00018000\n= 1\n";
+    assert_eq!(both("nb check | 80 FF0000"), refused);
 }
 
 #[test]

@@ -3,6 +3,18 @@
 
 use super::Drawer;
 
+/// Own addresses that are only just tested as set, or lose all their bits.
+const OWN_EDGES: [&str; 8] = [
+    "own7=0",
+    "own7=1",
+    "own7=80",
+    "own7raw=1",
+    "own7raw=100",
+    "own10=0",
+    "own10=1",
+    "own10=400",
+];
+
 impl Drawer {
     pub fn config_scene(&mut self) {
         match self.random.below(10) {
@@ -43,15 +55,15 @@ impl Drawer {
             0 => options.push(format!("own7={:X}", self.random.below(256))),
             1 => options.push(format!("own10={:x}", self.random.below(1 << 16))),
             2 => options.push(format!("own7raw={:X}", self.random.below(1 << 16))),
-            3 => options.push(
-                self.random
-                    .pick(&["own7=0", "own10=400", "own7raw=100"])
-                    .to_string(),
-            ),
+            3 => options.push(self.random.pick(&OWN_EDGES).to_string()),
             _ => {}
         }
         if self.random.one_in(3) {
-            let (address, mask) = (self.random.below(256), self.random.below(8));
+            let address = match self.random.below(3) {
+                0 => self.random.pick(&[0, 1, 0x7F, 0x80]),
+                _ => self.random.below(256),
+            };
+            let mask = self.random.below(8);
             options.push(format!("own2={address:02X}:{mask}"));
         }
         let mut text = format!("{call} {clock}");

@@ -19,7 +19,12 @@ impl Drawer {
             Kind::SlaveRead,
             Kind::SlaveWaitAddressed,
         ]);
-        let send = if kind.sends() { self.length() } else { 0 };
+        let send = match kind {
+            // The wait for TC compares with 254.
+            Kind::WriteRead if self.random.one_in(20) => self.random.pick(&[253, 254, 255]),
+            _ if kind.sends() => self.length(),
+            _ => 0,
+        };
         let recv = if kind.receives() { self.length() } else { 0 };
         let words = match self.random.below(5) {
             0 => (0..self.random.below(30))
@@ -139,7 +144,12 @@ impl Drawer {
                 self.wait(TXIS, &mut words);
             }
         }
-        if kind == Kind::WriteRead && !self.random.one_in(12) {
+        let stopped_early = self.random.one_in(if send > 252 { 2 } else { 12 });
+        if kind == Kind::WriteRead && stopped_early {
+            self.ending(kind, &mut words);
+            return words;
+        }
+        if kind == Kind::WriteRead {
             self.wait(TC, &mut words);
         }
         if kind.receives() {
