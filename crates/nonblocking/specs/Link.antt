@@ -1,0 +1,62 @@
+-- The link of the non-blocking driver, and what the calls do to it.
+use Prim.Native.Nat.{ℕ, _+_, _-_}
+use mathlib.Core.Bool.{Bool, cond, _||_}
+use mathlib.Core.List.{List}
+use lib.Dec.{ltb}
+use lib.ListN.{replicate}
+use Rattle.nonblocking.specs.declared.link.Link.{Link}
+
+-- the part of a link that is the same, after a common start, whatever was before
+pub record Common : Type 0 where
+  pub address : ℕ
+  pub watchdog : ℕ
+  pub index : ℕ
+  pub length : ℕ
+
+abbrev pub common : Link → Common
+common l = record { address = l .address; watchdog = l .watchdog; index = l .index; length = l .length }
+
+-- a link of that part, the errors, the second-half length and the bytes
+abbrev pub linkOf : Common → ℕ → ℕ → List ℕ → Link
+linkOf c errors second bytes = record {
+  address = c .address;
+  watchdog = c .watchdog;
+  index = c .index;
+  length = c .length;
+  errors = errors;
+  «length_write_read» = second;
+  «data» = bytes;
+}
+
+-- the link as constructed
+abbrev pub fresh : Link
+fresh = linkOf (record { address = 0; watchdog = 0; index = 0; length = 0 }) 0 0 (replicate 255 0)
+
+-- a transfer of n bytes with this address begins: the starts, and ADDR with DIR clear
+abbrev pub begun : ℕ → ℕ → Common
+begun address n = record { address = address; watchdog = 10; index = 0; length = n }
+
+-- n bytes from place 0 on, in the transfer that is open: the second half, and `slave_write`
+abbrev pub turned : ℕ → Common → Common
+turned n c = record { address = c .address; watchdog = c .watchdog; index = 0; length = n }
+
+abbrev pub atIndex : ℕ → Common → Common
+atIndex i c = record { address = c .address; watchdog = c .watchdog; index = i; length = c .length }
+
+abbrev pub withWatchdog : ℕ → Common → Common
+withWatchdog n c = record { address = c .address; watchdog = n; index = c .index; length = c .length }
+
+-- addressed by a master that reads
+abbrev pub addressed : ℕ → Common → Common
+addressed address c = record { address = address; watchdog = 10; index = c .index; length = c .length }
+
+-- one more error; the count stops at its top
+unfoldable pub oneMore : ℕ → ℕ
+oneMore errors = cond (ltb errors 4294967295) (errors + 1) errors
+
+-- answer 12: an index above the length, a length above 255, a watchdog above 10
+abbrev pub impossibleAt : ℕ → ℕ → ℕ → ℕ → Bool
+impossibleAt index length second watchdog = ltb length index || ltb 255 length || ltb 255 second || ltb 10 watchdog
+
+unfoldable pub impossible : Link → Bool
+impossible l = impossibleAt (l .index) (l .length) (l .«length_write_read») (l .watchdog)

@@ -1,0 +1,41 @@
+-- The whole outcome of a step: refusals 12, 9 and 10, or the plan.
+use Prim.Native.Nat.{ℕ}
+use mathlib.Core.Bool.{Bool, true, false}
+use mathlib.Core.List.{List, [], _∷_}
+use lib.ListN.{length, getD}
+use lib.Dec.{leb}
+use Rattle.registers.specs.Access.{Access, reads, entries}
+use Rattle.registers.specs.Answers.{Said, says}
+use Rattle.nonblocking.specs.declared.link.Link.{Link}
+use Rattle.nonblocking.specs.Link.{impossible}
+use Rattle.nonblocking.specs.Call.{Step}
+use Rattle.nonblocking.specs.Plan.{Plan, planOf}
+
+pub record Outcome : Type 0 where
+  pub accesses : List Access
+  pub answer : Said
+  pub link : Link
+  pub shown : List ℕ
+  -- how many words it took
+  pub taken : ℕ
+
+-- a refusal makes no access, takes no word, shows nothing and leaves the link
+abbrev pub refuse : ℕ → Link → Outcome
+refuse number l = record { accesses = []; answer = says number []; link = l; shown = []; taken = 0 }
+
+-- Is the link impossible? Are there words for all reads? Are there two places for each access?
+abbrev pub settle : Bool → Bool → Bool → Plan → Link → Outcome
+settle true enough fits p l = refuse 12 l
+settle false false fits p l = refuse 9 l
+settle false true false p l = refuse 10 l
+settle false true true p l = record { accesses = p .accesses; answer = p .answer; link = p .link; shown = p .shown; taken = reads (p .accesses) }
+
+abbrev pub settled : Plan → List ℕ → ℕ → Link → Outcome
+settled p words places l = settle (impossible l) (leb (reads (p .accesses)) (length words)) (leb (length (entries (p .accesses))) places) p l
+
+-- a missing word reads as 0, so that the plan's reads say how many words it needs
+abbrev pub planAt : Step → Link → Plan
+planAt s l = planOf (s .call) (getD (s .words) 0 0) (getD (s .words) 1 0) (getD (s .words) 2 0) l
+
+unfoldable pub outcome : Step → Link → Outcome
+outcome s l = settled (planAt s l) (s .words) (s .places) l
