@@ -28,6 +28,11 @@ linkOf c errors second bytes = record {
   «data» = bytes;
 }
 
+-- the same from its seven values
+abbrev pub linkAt : ℕ → ℕ → ℕ → ℕ → ℕ → ℕ → List ℕ → Link
+linkAt address watchdog index length errors second bytes =
+    linkOf (record { address = address; watchdog = watchdog; index = index; length = length }) errors second bytes
+
 -- the link as constructed
 abbrev pub fresh : Link
 fresh = linkOf (record { address = 0; watchdog = 0; index = 0; length = 0 }) 0 0 (replicate 255 0)

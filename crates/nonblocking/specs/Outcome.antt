@@ -1,11 +1,13 @@
 -- The whole outcome of a step: refusals 12, 9 and 10, or the plan.
 use Prim.Native.Nat.{ℕ}
-use mathlib.Core.Bool.{Bool, true, false}
+use mathlib.Core.Path.{_≡_}
+use mathlib.Core.Bool.{Bool, true, false, cond}
 use mathlib.Core.List.{List, [], _∷_}
-use lib.ListN.{length, getD}
-use lib.Dec.{leb}
-use Rattle.registers.specs.Access.{Access, reads, entries}
-use Rattle.registers.specs.Answers.{Said, says}
+use lib.ListN.{length, getD, take}
+use lib.Dec.{leb, eqb}
+use Rattle.registers.specs.declared.access.Report.{Report}
+use Rattle.registers.specs.Access.{Access, reads, entries, over}
+use Rattle.registers.specs.Answers.{Said, says, said}
 use Rattle.nonblocking.specs.declared.link.Link.{Link}
 use Rattle.nonblocking.specs.Link.{impossible}
 use Rattle.nonblocking.specs.Call.{Step}
@@ -30,12 +32,25 @@ settle false false fits p l = refuse 9 l
 settle false true false p l = refuse 10 l
 settle false true true p l = record { accesses = p .accesses; answer = p .answer; link = p .link; shown = p .shown; taken = reads (p .accesses) }
 
-abbrev pub settled : Plan → List ℕ → ℕ → Link → Outcome
-settled p words places l = settle (impossible l) (leb (reads (p .accesses)) (length words)) (leb (length (entries (p .accesses))) places) p l
+abbrev pub settled : Bool → Plan → List ℕ → ℕ → Link → Outcome
+settled impossible p words places l = settle impossible (leb (reads (p .accesses)) (length words)) (leb (length (entries (p .accesses))) places) p l
 
 -- a missing word reads as 0, so that the plan's reads say how many words it needs
 abbrev pub planAt : Step → Link → Plan
 planAt s l = planOf (s .call) (getD (s .words) 0 0) (getD (s .words) 1 0) (getD (s .words) 2 0) l
 
 unfoldable pub outcome : Step → Link → Outcome
-outcome s l = settled (planAt s l) (s .words) (s .places) l
+outcome s l = settled (impossible l) (planAt s l) (s .words) (s .places) l
+
+-- how many bytes an answer shows, from the front of the link's buffer: the count of Data and of `get_data`
+abbrev pub countShown : Said → ℕ
+countShown a = cond (eqb (a .number) 0x44) (getD (a .values) 2 0) (cond (eqb (a .number) 0x47) (getD (a .values) 0 0) 0)
+
+-- the report of a call, the link after it, the bytes shown and the log are what the outcome says
+pub record Matches (o : Outcome) (r : Report) (l : Link) (before after : List ℕ) : Type 0 where
+  pub answer : said (r .answer) ≡ o .answer
+  pub taken : r .taken ≡ o .taken
+  pub logged : r .logged ≡ length (entries (o .accesses))
+  pub link : l ≡ o .link
+  pub shown : take (countShown (o .answer)) (l .«data») ≡ o .shown
+  pub log : after ≡ over (entries (o .accesses)) before

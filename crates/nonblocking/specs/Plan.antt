@@ -119,6 +119,17 @@ onStart false true w rest l l′ = plan (read CR2 w ∷ rest) 0 l′
 abbrev pub goodLength : List ℕ → Bool
 goodLength bytes = ltb 0 (length bytes) && leb (length bytes) 255
 
+-- a write, with the length of the read that follows it; a read clears its part of the buffer
+abbrev pub writeStart : ℕ → List ℕ → ℕ → Bool → ℕ → ℕ → Link → Plan
+writeStart address bytes second autoend w v l =
+    onStart (starting w) (goodLength bytes) w (read CR2 v ∷ write CR2 (started v (sadd16 address) (length bytes) false autoend) ∷ []) l
+    (linkOf (begun address (length bytes)) (l .errors) second (over bytes (l .«data»)))
+
+abbrev pub readStart : ℕ → ℕ → ℕ → ℕ → ℕ → Link → Plan
+readStart address n w v u l =
+    onStart (starting w) true w (read RXDR v ∷ read CR2 u ∷ write CR2 (started u (sadd16 address) n true true) ∷ []) l
+    (linkOf (begun address n) (l .errors) (l .«length_write_read») (over (replicate n 0) (l .«data»)))
+
 abbrev pub onSlaveWrite : Bool → List ℕ → ℕ → Link → Plan
 onSlaveWrite false bytes w l = plan [] 6 l
 onSlaveWrite true bytes w l =
@@ -142,15 +153,9 @@ shows n l = record { accesses = []; answer = says 0x47 (n ∷ []); link = l; sho
 
 -- w, v and u are the words that the call meets, in order
 abbrev pub planOf : Call → ℕ → ℕ → ℕ → Link → Plan
-planOf (masterWrite address bytes) w v u l =
-    onStart (starting w) (goodLength bytes) w (read CR2 v ∷ write CR2 (started v (sadd16 address) (length bytes) false true) ∷ []) l
-    (linkOf (begun address (length bytes)) (l .errors) 0 (over bytes (l .«data»)))
-planOf (masterWriteRead address bytes n) w v u l =
-    onStart (starting w) (goodLength bytes) w (read CR2 v ∷ write CR2 (started v (sadd16 address) (length bytes) false false) ∷ []) l
-    (linkOf (begun address (length bytes)) (l .errors) n (over bytes (l .«data»)))
-planOf (masterRead address n) w v u l =
-    onStart (starting w) true w (read RXDR v ∷ read CR2 u ∷ write CR2 (started u (sadd16 address) n true true) ∷ []) l
-    (linkOf (begun address n) (l .errors) (l .«length_write_read») (over (replicate n 0) (l .«data»)))
+planOf (masterWrite address bytes) w v u l = writeStart address bytes 0 true w v l
+planOf (masterWriteRead address bytes n) w v u l = writeStart address bytes n false w v l
+planOf (masterRead address n) w v u l = readStart address n w v u l
 planOf (slaveWrite bytes) w v u l = onSlaveWrite (goodLength bytes) bytes w l
 planOf checkIsrFlags w v u l = after (read ISR w) (onFlag (takenAs w) w v u l)
 planOf executeWatchdog w v u l = onWatchdog (eqb (l .watchdog) 0) (eqb (l .watchdog) 1) w v u l

@@ -1,4 +1,5 @@
 // The non-blocking driver.
-ghost use Rattle.nonblocking.specs.EqualEnding.{EqualEnding};
-
+mod bytes;
+pub mod check;
 pub mod link;
+mod steps;

@@ -1,22 +1,31 @@
 // The link of the non-blocking driver.
 ghost use mathlib.Core.Path.{_≡_};
-ghost use Rattle.nonblocking.specs.Link.{fresh};
+ghost use Rattle.nonblocking.specs.Link.{fresh, impossibleAt};
+use registers::access::Report;
 
-// What a link holds between calls. For a slave `length_write_read` is 0.
+// What a link holds between calls.
 pub struct Link {
     pub address: u16,
     // On each start set to 10, on each stop set to 0.
     pub watchdog: u16,
     pub index: usize,
     pub length: usize,
-    // Errors since they were last read.
+    // Errors since the count was last read.
     pub errors: u32,
-    // For `master_write_read`, the length of the read that follows.
+    // For a `master_write_read`, the length of the read that follows.
     pub length_write_read: usize,
     pub data: [u8; 255],
 }
 
+// What a call gives back: the link, and its answer with the words taken and the places logged.
+// The bytes that an answer shows are the first ones of the link's data, as many as its count.
+pub struct Called {
+    pub link: Link,
+    pub report: Report,
+}
+
 impl Link {
+    // The link as constructed.
     pub fn new() -> Link
         ensures { λ r. ⌜ r ≡ fresh ⌝ }
     {
@@ -30,4 +39,20 @@ impl Link {
             data: [0u8; 255],
         }
     }
+}
+
+// Whether no run of calls leaves such a link: answer 12.
+pub fn impossible(index: usize, length: usize, length_write_read: usize, watchdog: u16) -> bool
+    ensures { λ r. ⌜ r ≡ impossibleAt index length «length_write_read» watchdog ⌝ }
+{
+    if length < index {
+        return true;
+    }
+    if 255 < length {
+        return true;
+    }
+    if 255 < length_write_read {
+        return true;
+    }
+    10 < watchdog
 }
