@@ -6,6 +6,7 @@ use mathlib.Core.List.{List, [], _∷_}
 use lib.ListN.{length, getD, take}
 use lib.Dec.{leb, eqb}
 use Rattle.registers.specs.declared.access.Report.{Report}
+use Rattle.registers.specs.declared.answer.Answer.the-variants.{ImpossibleLink}
 use Rattle.registers.specs.Access.{Access, reads, entries, over}
 use Rattle.registers.specs.Answers.{Said, says, said}
 use Rattle.nonblocking.specs.declared.link.Link.{Link}
@@ -41,6 +42,10 @@ planAt s l = planOf (s .call) (getD (s .words) 0 0) (getD (s .words) 1 0) (getD 
 
 unfoldable pub outcome : Step → Link → Outcome
 outcome s l = settled (impossible l) (planAt s l) (s .words) (s .places) l
+
+-- the report of answer 12
+abbrev pub refusal12 : Report
+refusal12 = record { answer = ImpossibleLink; taken = 0; logged = 0 }
 
 -- how many bytes an answer shows, from the front of the link's buffer: the count of Data and of `get_data`
 abbrev pub countShown : Said → ℕ

@@ -151,6 +151,10 @@ tells letter value l = record { accesses = []; answer = says letter (value ∷ [
 abbrev pub shows : ℕ → Link → Plan
 shows n l = record { accesses = []; answer = says 0x47 (n ∷ []); link = l; shown = take n (l .«data») }
 
+-- `listen` and `unlisten`
+abbrev pub interruptPlan : Bool → ℕ → Link → Plan
+interruptPlan on w l = plan (read CR1 w ∷ write CR1 (interrupts w on) ∷ []) 0 l
+
 -- w, v and u are the words that the call meets, in order
 abbrev pub planOf : Call → ℕ → ℕ → ℕ → Link → Plan
 planOf (masterWrite address bytes) w v u l = writeStart address bytes 0 true w v l
@@ -163,7 +167,7 @@ planOf getErrorsReset w v u l = tells 0x45 (l .errors) (linkOf (common l) 0 (l .
 planOf masterGetData w v u l = shows (l .length) l
 planOf slaveGetData w v u l = shows (l .index) l
 planOf getAddress w v u l = tells 0x4E (l .address) l
-planOf listen w v u l = plan (read CR1 w ∷ write CR1 (interrupts w true) ∷ []) 0 l
-planOf unlisten w v u l = plan (read CR1 w ∷ write CR1 (interrupts w false) ∷ []) 0 l
+planOf listen w v u l = interruptPlan true w l
+planOf unlisten w v u l = interruptPlan false w l
 planOf (slaveSbc on) w v u l = plan (read CR1 w ∷ write CR1 (byteControl w on) ∷ []) 0 l
 planOf (setAddress address) w v u l = plan (write OAR1 (ownSeven address false false) ∷ write OAR1 (ownSeven address false true) ∷ []) 0 l

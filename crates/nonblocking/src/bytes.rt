@@ -5,7 +5,7 @@ ghost use lib.ListN.{length, replicate};
 ghost use Rattle.registers.specs.Access.{over};
 
 // By way of a second array: the compiler makes one block move of the two loops.
-fn copy_in(data: &mut [u8; 255], bytes: &[u8])
+pub(crate) fn copy_in(data: &mut [u8; 255], bytes: &[u8])
     requires { ⌜ length (now bytes) ≤ 255 ⌝ }
     ensures { λ r. ⌜ now («data» .exit) ≡ over (now (bytes .entry)) (now («data» .entry)) ⌝ }
 {
@@ -23,7 +23,7 @@ fn copy_in(data: &mut [u8; 255], bytes: &[u8])
     }
 }
 
-fn clear(data: &mut [u8; 255], n: usize)
+pub(crate) fn clear(data: &mut [u8; 255], n: usize)
     requires { ⌜ n ≤ 255 ⌝ }
     ensures { λ r. ⌜ now («data» .exit) ≡ over (replicate n 0) (now («data» .entry)) ⌝ }
 {

@@ -24,7 +24,7 @@ use registers::isr::Icr;
 use registers::isr::Isr;
 
 // One more error; the count stops at its top.
-pub fn one_more(errors: u32) -> u32
+pub(crate) fn one_more(errors: u32) -> u32
     ensures { λ r. ⌜ r ≡ oneMore errors ⌝ }
 {
     if errors < 4_294_967_295 {
@@ -49,7 +49,7 @@ fn clear_flag(answer: Answer, flag: Field, words: &[u32], log: &mut [u32]) -> Re
     settle(answer, 1, &entries, words, log)
 }
 
-pub fn on_berr(errors: &mut u32, words: &[u32], log: &mut [u32]) -> Report
+pub(crate) fn on_berr(errors: &mut u32, words: &[u32], log: &mut [u32]) -> Report
     ensures { λ r. ⌜ ((a w i n h : ℕ) (d : List ℕ) → Arm Flag.Berr (now (words .entry)) (linkAt a w i n (now (errors .entry)) h d) (linkAt a w i n (now (errors .exit)) h d) r (now (log .entry)) (now (log .exit))) ⌝ }
 {
     let report = clear_flag(Answer::BusError, Isr::BERR, words, log);
@@ -61,27 +61,38 @@ pub fn on_berr(errors: &mut u32, words: &[u32], log: &mut [u32]) -> Report
 }
 
 // A lost bus is not counted as an error.
-pub fn on_arlo(words: &[u32], log: &mut [u32]) -> Report
+pub(crate) fn on_arlo(words: &[u32], log: &mut [u32]) -> Report
     ensures { λ r. ⌜ ((l : Link) → Arm Flag.Arlo (now (words .entry)) l l r (now (log .entry)) (now (log .exit))) ⌝ }
 {
     clear_flag(Answer::ArbitrationLost, Isr::ARLO, words, log)
 }
 
 // The stop condition is yet to come.
-pub fn on_nackf(words: &[u32], log: &mut [u32]) -> Report
+pub(crate) fn on_nackf(words: &[u32], log: &mut [u32]) -> Report
     ensures { λ r. ⌜ ((l : Link) → Arm Flag.Nackf (now (words .entry)) l l r (now (log .entry)) (now (log .exit))) ⌝ }
 {
     clear_flag(Answer::Pending, Isr::NACKF, words, log)
 }
 
 // The next byte goes on the wire.
-pub fn on_txis(index: &mut usize, length: usize, data: &[u8; 255], words: &[u32], log: &mut [u32]) -> Report
+pub(crate) fn on_txis(
+    index: &mut usize,
+    length: usize,
+    data: &[u8; 255],
+    words: &[u32],
+    log: &mut [u32],
+) -> Report
     requires { ⌜ length ≤ 255 ⌝ }
     ensures { λ r. ⌜ ((a w e h : ℕ) → Arm Flag.Txis (now (words .entry)) (linkAt a w (now (index .entry)) length e h (now («data» .entry))) (linkAt a w (now (index .exit)) length e h (now («data» .entry))) r (now (log .entry)) (now (log .exit))) ⌝ }
 {
     let i = *index;
     if i < length {
-        let entries = [Isr::READ, word_at(words, 0), Txdr::WRITE, Txdr::sent(data[i])];
+        let entries = [
+            Isr::READ,
+            word_at(words, 0),
+            Txdr::WRITE,
+            Txdr::sent(data[i]),
+        ];
         let report = settle(Answer::Pending, 1, &entries, words, log);
         if report.logged == 0 {
             return report;
@@ -93,7 +104,13 @@ pub fn on_txis(index: &mut usize, length: usize, data: &[u8; 255], words: &[u32]
 }
 
 // A byte came in. With a full index RXDR is read anyway, if RXNE is still set, to clear the flag.
-pub fn on_rxne(index: &mut usize, length: usize, data: &mut [u8; 255], words: &[u32], log: &mut [u32]) -> Report
+pub(crate) fn on_rxne(
+    index: &mut usize,
+    length: usize,
+    data: &mut [u8; 255],
+    words: &[u32],
+    log: &mut [u32],
+) -> Report
     requires { ⌜ length ≤ 255 ⌝ }
     ensures { λ r. ⌜ ((a w e h : ℕ) → Arm Flag.Rxne (now (words .entry)) (linkAt a w (now (index .entry)) length e h (now («data» .entry))) (linkAt a w (now (index .exit)) length e h (now («data» .exit))) r (now (log .entry)) (now (log .exit))) ⌝ }
 {
@@ -111,7 +128,14 @@ pub fn on_rxne(index: &mut usize, length: usize, data: &mut [u8; 255], words: &[
         return report;
     }
     if Isr::RXNE.is_set(next) {
-        let entries = [Isr::READ, isr, Isr::READ, next, Rxdr::READ, word_at(words, 2)];
+        let entries = [
+            Isr::READ,
+            isr,
+            Isr::READ,
+            next,
+            Rxdr::READ,
+            word_at(words, 2),
+        ];
         return settle(Answer::Pending, 3, &entries, words, log);
     }
     let entries = [Isr::READ, isr, Isr::READ, next];
@@ -119,7 +143,14 @@ pub fn on_rxne(index: &mut usize, length: usize, data: &mut [u8; 255], words: &[
 }
 
 // The transfer ended: with nothing moved it was not acknowledged, else its bytes are shown. The index stays.
-pub fn on_stopf(address: u16, watchdog: &mut u16, index: usize, errors: &mut u32, words: &[u32], log: &mut [u32]) -> Report
+pub(crate) fn on_stopf(
+    address: u16,
+    watchdog: &mut u16,
+    index: usize,
+    errors: &mut u32,
+    words: &[u32],
+    log: &mut [u32],
+) -> Report
     ensures { λ r. ⌜ ((n h : ℕ) (d : List ℕ) → Arm Flag.Stopf (now (words .entry)) (linkAt address (now (watchdog .entry)) index n (now (errors .entry)) h d) (linkAt address (now (watchdog .exit)) index n (now (errors .exit)) h d) r (now (log .entry)) (now (log .exit))) ⌝ }
 {
     if index == 0 {
@@ -145,7 +176,7 @@ pub fn on_stopf(address: u16, watchdog: &mut u16, index: usize, errors: &mut u32
 }
 
 // The first half of a `master_write_read` ended: the second half starts, or the frame was short.
-pub fn on_tc(
+pub(crate) fn on_tc(
     address: u16,
     index: &mut usize,
     length: &mut usize,
@@ -171,7 +202,14 @@ pub fn on_tc(
         return report;
     }
     let cr2 = word_at(words, 1);
-    let entries = [Isr::READ, word_at(words, 0), Cr2::READ, cr2, Cr2::WRITE, Cr2::stopped(cr2)];
+    let entries = [
+        Isr::READ,
+        word_at(words, 0),
+        Cr2::READ,
+        cr2,
+        Cr2::WRITE,
+        Cr2::stopped(cr2),
+    ];
     let report = settle(Answer::IncorrectFrameSize(count), 2, &entries, words, log);
     if report.logged == 0 {
         return report;
@@ -192,16 +230,30 @@ fn raised(index: usize, length: usize) -> usize
 }
 
 // As a slave, one byte more than expected: it is not acknowledged.
-pub fn on_tcr(words: &[u32], log: &mut [u32]) -> Report
+pub(crate) fn on_tcr(words: &[u32], log: &mut [u32]) -> Report
     ensures { λ r. ⌜ ((l : Link) → Arm Flag.Tcr (now (words .entry)) l l r (now (log .entry)) (now (log .exit))) ⌝ }
 {
     let cr2 = word_at(words, 1);
-    let entries = [Isr::READ, word_at(words, 0), Cr2::READ, cr2, Cr2::WRITE, Cr2::refused(cr2)];
+    let entries = [
+        Isr::READ,
+        word_at(words, 0),
+        Cr2::READ,
+        cr2,
+        Cr2::WRITE,
+        Cr2::refused(cr2),
+    ];
     settle(Answer::Pending, 2, &entries, words, log)
 }
 
 // Addressed by a master. Where it writes, the buffer is opened for its bytes; where it reads, `slave_write` is to follow.
-pub fn on_addr(address: &mut u16, watchdog: &mut u16, index: &mut usize, length: &mut usize, words: &[u32], log: &mut [u32]) -> Report
+pub(crate) fn on_addr(
+    address: &mut u16,
+    watchdog: &mut u16,
+    index: &mut usize,
+    length: &mut usize,
+    words: &[u32],
+    log: &mut [u32],
+) -> Report
     ensures { λ r. ⌜ ((e h : ℕ) (d : List ℕ) → Arm Flag.Addr (now (words .entry)) (linkAt (now (address .entry)) (now (watchdog .entry)) (now (index .entry)) (now (length .entry)) e h d) (linkAt (now (address .exit)) (now (watchdog .exit)) (now (index .exit)) (now (length .exit)) e h d) r (now (log .entry)) (now (log .exit))) ⌝ }
 {
     let isr = word_at(words, 0);
@@ -242,7 +294,7 @@ pub fn on_addr(address: &mut u16, watchdog: &mut u16, index: &mut usize, length:
     report
 }
 
-pub fn on_nothing(words: &[u32], log: &mut [u32]) -> Report
+pub(crate) fn on_nothing(words: &[u32], log: &mut [u32]) -> Report
     ensures { λ r. ⌜ ((l : Link) → Arm Flag.Nothing (now (words .entry)) l l r (now (log .entry)) (now (log .exit))) ⌝ }
 {
     look(words, log)

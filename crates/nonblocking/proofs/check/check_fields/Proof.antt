@@ -2,7 +2,8 @@
 use mathlib.Core.Path.{_≡_, sym, _∙_}
 use Rattle.registers.specs.declared.isr.Flag.the-variants.{Berr, Arlo, Nackf, Txis, Rxne, Stopf, Tc, Tcr, Addr, Nothing}
 use Rattle.nonblocking.specs.Link.{linkAt}
-use Rattle.nonblocking.proofs.Outcomes.{check-12, check-by, length-255}
+use Rattle.nonblocking.specs.Call.{checkIsrFlags}
+use Rattle.nonblocking.proofs.Outcomes.{outcome-12, check-by, length-255}
 use borrow.Author.Needs.{needs}
 use Rattle.nonblocking.proofs.check.check_fields.Statement.{statement}
 use Rattle.nonblocking.proofs.check.check_fields.Tie as tie
@@ -11,7 +12,7 @@ returns : tie.Need-returns
 returns c =
     let x = c .before .before .before .before .before .before .before .before .before .args in
     let l = linkAt (x .address .now) (x .watchdog .now) (x .index .now) (x .length .now) (x .errors .now) (x .length-write-read .now) (x .«data» .now) in
-    check-12 (x .words .now) l (sym (c .before .before .impossible .ensures) ∙ c .before .if1 .taken) (c .refused .ensures)
+    outcome-12 checkIsrFlags (x .words .now) l (sym (c .before .before .impossible .ensures) ∙ c .before .if1 .taken) (c .refused .ensures)
 
 on-txis-requires : tie.Need-on-txis-requires
 on-txis-requires c κs =
