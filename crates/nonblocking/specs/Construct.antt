@@ -1,0 +1,22 @@
+-- Construction: the registers' set-up with this driver's reading of the own address, and a fresh link.
+use Prim.Native.Nat.{ℕ}
+use mathlib.Core.Path.{_≡_}
+use mathlib.Core.Bool.{Bool, true, false}
+use mathlib.Core.List.{List}
+use lib.ListN.{length}
+use Rattle.registers.specs.declared.access.Report.{Report}
+use Rattle.registers.specs.declared.config.Config.{Config}
+use Rattle.registers.specs.Access.{Reported}
+use Rattle.registers.specs.SetUp.{setUp}
+use Rattle.registers.specs.Words.{ownSeven, ownTen}
+use Rattle.nonblocking.specs.declared.link.Link.{Link}
+use Rattle.nonblocking.specs.Link.{fresh}
+
+-- OAR1: ten bits of an address of eleven, else seven
+abbrev pub ownAddress : Bool → ℕ → ℕ
+ownAddress true address = ownTen address
+ownAddress false address = ownSeven address false true
+
+pub record Constructed (c : Config) (clock : ℕ) (words before : List ℕ) (r : Report) (l : Link) (after : List ℕ) : Type 0 where
+  pub link : l ≡ fresh
+  pub report : Reported (setUp c clock (ownAddress (c .«address_11bits») (c .«slave_address_1»)) words (length before)) before r after
