@@ -1,14 +1,3 @@
-pub mod Agree
-pub mod Histories
 pub mod Laid
-pub mod Lists
-pub mod Needed
-pub mod OneCall
-pub mod OneCheck
-pub mod OneStep
 pub mod Outcomes
-pub mod Premises
-pub mod Runs
 pub mod Settling
-pub mod StartSet
-pub mod Theorem

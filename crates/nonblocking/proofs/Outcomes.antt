@@ -12,11 +12,11 @@ use Rattle.registers.specs.declared.isr.Flag.{Flag}
 use Rattle.registers.specs.declared.answer.Answer.{Answer}
 use Rattle.registers.specs.Answers.{Said, said}
 use Rattle.registers.specs.Flags.{takenAs}
-use Rattle.nonblocking.specs.declared.link.Link.{Link}
-use Rattle.nonblocking.specs.Link.{impossible, impossibleAt}
-use Rattle.nonblocking.specs.Call.{Call, Step, checkIsrFlags}
-use Rattle.nonblocking.specs.Plan.{Plan, goodLength}
-use Rattle.nonblocking.specs.Outcome.{planAt, settled, outcome, refusal12, countShown, Matches}
+use Rattle.ending.specs.Link.{Link}
+use Rattle.ending.specs.Link.{impossible, impossibleAt}
+use Rattle.ending.specs.Call.{Call, Step, checkIsrFlags}
+use Rattle.ending.specs.Plan.{Plan, goodLength}
+use Rattle.ending.specs.Outcome.{planAt, settled, outcome, refusal12, countShown, Matches}
 use Rattle.nonblocking.specs.Arms.{Tried, Arm}
 
 -- the test that the code makes of a link's values

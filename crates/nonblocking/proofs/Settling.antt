@@ -9,9 +9,9 @@ use lib.Dec.{leb}
 use Rattle.registers.specs.declared.access.Report.{Report}
 use Rattle.registers.specs.Access.{reads, entries, Settled, refusal, settle as settleAccesses, Reported}
 use Rattle.registers.specs.Answers.{Said}
-use Rattle.nonblocking.specs.declared.link.Link.{Link}
-use Rattle.nonblocking.specs.Plan.{Plan}
-use Rattle.nonblocking.specs.Outcome.{settle, countShown, Matches}
+use Rattle.ending.specs.Link.{Link}
+use Rattle.ending.specs.Plan.{Plan}
+use Rattle.ending.specs.Outcome.{settle, countShown, Matches}
 use Rattle.nonblocking.specs.Arms.{Tried}
 
 -- the settlement of a plan's accesses

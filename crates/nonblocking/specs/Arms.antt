@@ -7,9 +7,9 @@ use Rattle.registers.specs.declared.access.Report.{Report}
 use Rattle.registers.specs.declared.isr.Flag.{Flag}
 use Rattle.registers.specs.Layout.{ISR}
 use Rattle.registers.specs.Access.{read}
-use Rattle.nonblocking.specs.declared.link.Link.{Link}
-use Rattle.nonblocking.specs.Plan.{Plan, after, onFlag}
-use Rattle.nonblocking.specs.Outcome.{settled, Matches}
+use Rattle.ending.specs.Link.{Link}
+use Rattle.ending.specs.Plan.{Plan, after, onFlag}
+use Rattle.ending.specs.Outcome.{settled, Matches}
 
 -- the report, the link and the log after a plan was tried
 abbrev pub Tried : Plan → List ℕ → Link → Link → Report → List ℕ → List ℕ → Type 0

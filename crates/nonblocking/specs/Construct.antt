@@ -10,7 +10,8 @@ use Rattle.registers.specs.Access.{Reported}
 use Rattle.registers.specs.SetUp.{setUp}
 use Rattle.registers.specs.Words.{ownSeven, ownTen}
 use Rattle.nonblocking.specs.declared.link.Link.{Link}
-use Rattle.nonblocking.specs.Link.{fresh}
+use Rattle.nonblocking.specs.Model.{model}
+use Rattle.ending.specs.Link.{fresh}
 
 -- OAR1: ten bits of an address of eleven, else seven
 abbrev pub ownAddress : Bool → ℕ → ℕ
@@ -18,5 +19,5 @@ ownAddress true address = ownTen address
 ownAddress false address = ownSeven address false true
 
 pub record Constructed (c : Config) (clock : ℕ) (words before : List ℕ) (r : Report) (l : Link) (after : List ℕ) : Type 0 where
-  pub link : l ≡ fresh
+  pub link : model l ≡ fresh
   pub report : Reported (setUp c clock (ownAddress (c .«address_11bits») (c .«slave_address_1»)) words (length before)) before r after

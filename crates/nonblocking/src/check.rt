@@ -1,9 +1,10 @@
 // `check_isr_flags`: the flag that the ISR word is taken as chooses the step.
 ghost use mathlib.Core.Path.{_≡_};
 ghost use lib.ListN.{length as size};
-ghost use Rattle.nonblocking.specs.Link.{linkAt};
-ghost use Rattle.nonblocking.specs.Call.{checkIsrFlags};
-ghost use Rattle.nonblocking.specs.Outcome.{outcome, Matches};
+ghost use Rattle.ending.specs.Link.{linkAt};
+ghost use Rattle.ending.specs.Call.{checkIsrFlags};
+ghost use Rattle.nonblocking.specs.Model.{model};
+ghost use Rattle.ending.specs.Outcome.{outcome, Matches};
 use crate::link::Called;
 use crate::link::Link;
 use crate::link::impossible;
@@ -70,7 +71,7 @@ pub fn check_fields(
 impl Link {
     // Looks at the flags once, and does what the first set one asks for. Call it from the I2C interrupt, or again while it answers pending.
     pub fn check_isr_flags(self, words: &[u32], log: &mut [u32]) -> Called
-        ensures { λ r. ⌜ Matches (outcome (record { call = checkIsrFlags; words = now (words .entry); places = size (now (log .entry)) }) self) (r .report) (r .link) (now (log .entry)) (now (log .exit)) ⌝ }
+        ensures { λ r. ⌜ Matches (outcome (record { call = checkIsrFlags; words = now (words .entry); places = size (now (log .entry)) }) (model self)) (r .report) (model (r .link)) (now (log .entry)) (now (log .exit)) ⌝ }
     {
         let mut address = self.address;
         let mut watchdog = self.watchdog;

@@ -3,7 +3,7 @@ ghost use mathlib.Core.Path.{_≡_};
 ghost use lib.ListN.{length as size};
 ghost use Rattle.registers.specs.Access.{Reported};
 ghost use Rattle.registers.specs.SetUp.{setUp};
-ghost use Rattle.nonblocking.specs.Link.{fresh};
+ghost use Rattle.ending.specs.Link.{fresh};
 ghost use Rattle.nonblocking.specs.Construct.{ownAddress, Constructed};
 use crate::link::Called;
 use crate::link::Link;

@@ -4,10 +4,11 @@ ghost use mathlib.Core.Bool.{true, false};
 ghost use Prim.Native.Nat.{ℕ};
 ghost use mathlib.Core.List.{List};
 ghost use lib.ListN.{length as size, getD};
-ghost use Rattle.nonblocking.specs.Link.{linkAt, impossible};
-ghost use Rattle.nonblocking.specs.Plan.{interruptPlan};
-ghost use Rattle.nonblocking.specs.Call.{Call, listen, unlisten, executeWatchdog, getErrorsReset};
-ghost use Rattle.nonblocking.specs.Outcome.{outcome, settled, Matches};
+ghost use Rattle.ending.specs.Link.{linkAt, impossible};
+ghost use Rattle.ending.specs.Plan.{interruptPlan};
+ghost use Rattle.ending.specs.Call.{Call, listen, unlisten, executeWatchdog, getErrorsReset};
+ghost use Rattle.nonblocking.specs.Model.{model};
+ghost use Rattle.ending.specs.Outcome.{outcome, settled, Matches};
 use crate::link::Called;
 use crate::link::Link;
 use crate::link::impossible;
@@ -70,7 +71,7 @@ pub fn watchdog_fields(
 impl Link {
     // To be called every tenth of a second, if at all: after ten calls without an end of the transfer the unit is reset.
     pub fn execute_watchdog(self, words: &[u32], log: &mut [u32]) -> Called
-        ensures { λ r. ⌜ Matches (outcome (record { call = executeWatchdog; words = now (words .entry); places = size (now (log .entry)) }) self) (r .report) (r .link) (now (log .entry)) (now (log .exit)) ⌝ }
+        ensures { λ r. ⌜ Matches (outcome (record { call = executeWatchdog; words = now (words .entry); places = size (now (log .entry)) }) (model self)) (r .report) (model (r .link)) (now (log .entry)) (now (log .exit)) ⌝ }
     {
         let mut watchdog = self.watchdog;
         let mut errors = self.errors;
@@ -100,7 +101,7 @@ impl Link {
 
     // The error count, which is then 0.
     pub fn get_errors_reset(self) -> Called
-        ensures { λ r. ⌜ ((words log : List ℕ) → Matches (outcome (record { call = getErrorsReset; words = words; places = size log }) self) (r .report) (r .link) log log) ⌝ }
+        ensures { λ r. ⌜ ((words log : List ℕ) → Matches (outcome (record { call = getErrorsReset; words = words; places = size log }) (model self)) (r .report) (model (r .link)) log log) ⌝ }
     {
         if impossible(
             self.index,
@@ -123,20 +124,20 @@ impl Link {
 
     // Starts listening for interrupts.
     pub fn listen(self, words: &[u32], log: &mut [u32]) -> Called
-        ensures { λ r. ⌜ Matches (outcome (record { call = listen; words = now (words .entry); places = size (now (log .entry)) }) self) (r .report) (r .link) (now (log .entry)) (now (log .exit)) ⌝ }
+        ensures { λ r. ⌜ Matches (outcome (record { call = listen; words = now (words .entry); places = size (now (log .entry)) }) (model self)) (r .report) (model (r .link)) (now (log .entry)) (now (log .exit)) ⌝ }
     {
         self.interrupts(true, words, log)
     }
 
     // Stops listening for interrupts.
     pub fn unlisten(self, words: &[u32], log: &mut [u32]) -> Called
-        ensures { λ r. ⌜ Matches (outcome (record { call = unlisten; words = now (words .entry); places = size (now (log .entry)) }) self) (r .report) (r .link) (now (log .entry)) (now (log .exit)) ⌝ }
+        ensures { λ r. ⌜ Matches (outcome (record { call = unlisten; words = now (words .entry); places = size (now (log .entry)) }) (model self)) (r .report) (model (r .link)) (now (log .entry)) (now (log .exit)) ⌝ }
     {
         self.interrupts(false, words, log)
     }
 
     fn interrupts(self, on: bool, words: &[u32], log: &mut [u32]) -> Called
-        ensures { λ r. ⌜ Matches (settled (impossible self) (interruptPlan on (getD (now (words .entry)) 0 0) self) (now (words .entry)) (size (now (log .entry))) self) (r .report) (r .link) (now (log .entry)) (now (log .exit)) ⌝ }
+        ensures { λ r. ⌜ Matches (settled (impossible (model self)) (interruptPlan on (getD (now (words .entry)) 0 0) (model self)) (now (words .entry)) (size (now (log .entry))) (model self)) (r .report) (model (r .link)) (now (log .entry)) (now (log .exit)) ⌝ }
     {
         if impossible(
             self.index,

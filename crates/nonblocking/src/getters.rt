@@ -3,9 +3,10 @@ ghost use mathlib.Core.Path.{_≡_};
 ghost use mathlib.Core.List.{List};
 ghost use Prim.Native.Nat.{ℕ};
 ghost use lib.ListN.{length as size};
-ghost use Rattle.nonblocking.specs.Call.{masterGetData, slaveGetData, getAddress};
-ghost use Rattle.nonblocking.specs.Outcome.{outcome, refusal12, Matches};
-ghost use Rattle.nonblocking.specs.Link.{impossible};
+ghost use Rattle.ending.specs.Call.{masterGetData, slaveGetData, getAddress};
+ghost use Rattle.nonblocking.specs.Model.{model};
+ghost use Rattle.ending.specs.Outcome.{outcome, refusal12, Matches};
+ghost use Rattle.ending.specs.Link.{impossible};
 ghost use mathlib.Core.Bool.{cond};
 use crate::link::Called;
 use crate::link::Link;
@@ -16,27 +17,27 @@ use registers::answer::Answer;
 impl Link {
     // Shows as many bytes as the last transfer was to have.
     pub fn master_get_data(self) -> Called
-        ensures { λ r. ⌜ ((words log : List ℕ) → Matches (outcome (record { call = masterGetData; words = words; places = size log }) self) (r .report) (r .link) log log) ⌝ }
+        ensures { λ r. ⌜ ((words log : List ℕ) → Matches (outcome (record { call = masterGetData; words = words; places = size log }) (model self)) (r .report) (model (r .link)) log log) ⌝ }
     {
         self.tell(Answer::Bytes(self.length))
     }
 
     // Shows as many bytes as the last transfer moved.
     pub fn slave_get_data(self) -> Called
-        ensures { λ r. ⌜ ((words log : List ℕ) → Matches (outcome (record { call = slaveGetData; words = words; places = size log }) self) (r .report) (r .link) log log) ⌝ }
+        ensures { λ r. ⌜ ((words log : List ℕ) → Matches (outcome (record { call = slaveGetData; words = words; places = size log }) (model self)) (r .report) (model (r .link)) log log) ⌝ }
     {
         self.tell(Answer::Bytes(self.index))
     }
 
     // The address of the last transfer.
     pub fn get_address(self) -> Called
-        ensures { λ r. ⌜ ((words log : List ℕ) → Matches (outcome (record { call = getAddress; words = words; places = size log }) self) (r .report) (r .link) log log) ⌝ }
+        ensures { λ r. ⌜ ((words log : List ℕ) → Matches (outcome (record { call = getAddress; words = words; places = size log }) (model self)) (r .report) (model (r .link)) log log) ⌝ }
     {
         self.tell(Answer::Address(self.address))
     }
 
     fn tell(self, answer: Answer) -> Called
-        ensures { λ r. ⌜ (r .link ≡ self) × (r .report ≡ cond (impossible self) refusal12 (record { answer = answer; taken = 0; logged = 0 })) ⌝ }
+        ensures { λ r. ⌜ (r .link ≡ self) × (r .report ≡ cond (impossible (model self)) refusal12 (record { answer = answer; taken = 0; logged = 0 })) ⌝ }
     {
         if impossible(
             self.index,

@@ -1,5 +1,5 @@
 // The non-blocking driver.
-ghost use Rattle.nonblocking.specs.EqualEnding.{EqualEnding};
+ghost use Rattle.ending.specs.EqualEnding.{EqualEnding};
 
 mod bytes;
 pub mod check;

@@ -1,6 +1,7 @@
 // The link of the non-blocking driver.
 ghost use mathlib.Core.Path.{_≡_};
-ghost use Rattle.nonblocking.specs.Link.{fresh, impossibleAt};
+ghost use Rattle.ending.specs.Link.{fresh, impossibleAt};
+ghost use Rattle.nonblocking.specs.Model.{model};
 use registers::access::Report;
 
 // What a link holds between calls.
@@ -27,7 +28,7 @@ pub struct Called {
 impl Link {
     // The link as constructed.
     pub fn new() -> Link
-        ensures { λ r. ⌜ r ≡ fresh ⌝ }
+        ensures { λ r. ⌜ model r ≡ fresh ⌝ }
     {
         Link {
             address: 0,

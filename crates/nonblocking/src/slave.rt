@@ -2,9 +2,10 @@
 ghost use mathlib.Core.Path.{_≡_};
 ghost use Prim.Native.Nat.{ℕ};
 ghost use lib.ListN.{length as size, getD};
-ghost use Rattle.nonblocking.specs.Link.{linkAt, impossible};
-ghost use Rattle.nonblocking.specs.Call.{slaveWrite, slaveSbc, setAddress};
-ghost use Rattle.nonblocking.specs.Outcome.{outcome, Matches};
+ghost use Rattle.ending.specs.Link.{linkAt, impossible};
+ghost use Rattle.ending.specs.Call.{slaveWrite, slaveSbc, setAddress};
+ghost use Rattle.nonblocking.specs.Model.{model};
+ghost use Rattle.ending.specs.Outcome.{outcome, Matches};
 use crate::bytes::copy_in;
 use crate::link::Called;
 use crate::link::Link;
@@ -65,7 +66,7 @@ pub fn slave_write_fields(
 impl Link {
     // The bytes that the master is to read, after it addressed this slave. Without them the bus stays blocked.
     pub fn slave_write(self, bytes: &[u8], words: &[u32], log: &mut [u32]) -> Called
-        ensures { λ r. ⌜ Matches (outcome (record { call = slaveWrite (now (bytes .entry)); words = now (words .entry); places = size (now (log .entry)) }) self) (r .report) (r .link) (now (log .entry)) (now (log .exit)) ⌝ }
+        ensures { λ r. ⌜ Matches (outcome (record { call = slaveWrite (now (bytes .entry)); words = now (words .entry); places = size (now (log .entry)) }) (model self)) (r .report) (model (r .link)) (now (log .entry)) (now (log .exit)) ⌝ }
     {
         let mut index = self.index;
         let mut length = self.length;
@@ -96,7 +97,7 @@ impl Link {
 
     // Switches slave byte control. A transfer in which a master writes and then reads should begin with it off.
     pub fn slave_sbc(self, sbc_enabled: bool, words: &[u32], log: &mut [u32]) -> Called
-        ensures { λ r. ⌜ Matches (outcome (record { call = slaveSbc «sbc_enabled»; words = now (words .entry); places = size (now (log .entry)) }) self) (r .report) (r .link) (now (log .entry)) (now (log .exit)) ⌝ }
+        ensures { λ r. ⌜ Matches (outcome (record { call = slaveSbc «sbc_enabled»; words = now (words .entry); places = size (now (log .entry)) }) (model self)) (r .report) (model (r .link)) (now (log .entry)) (now (log .exit)) ⌝ }
     {
         if impossible(
             self.index,
@@ -124,7 +125,7 @@ impl Link {
 
     // Sets and enables the own address of seven bits. It is disabled while it changes.
     pub fn set_address(self, address: u16, words: &[u32], log: &mut [u32]) -> Called
-        ensures { λ r. ⌜ Matches (outcome (record { call = setAddress address; words = now (words .entry); places = size (now (log .entry)) }) self) (r .report) (r .link) (now (log .entry)) (now (log .exit)) ⌝ }
+        ensures { λ r. ⌜ Matches (outcome (record { call = setAddress address; words = now (words .entry); places = size (now (log .entry)) }) (model self)) (r .report) (model (r .link)) (now (log .entry)) (now (log .exit)) ⌝ }
     {
         if impossible(
             self.index,

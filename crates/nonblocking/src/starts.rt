@@ -2,10 +2,11 @@
 ghost use mathlib.Core.Path.{_≡_};
 ghost use Prim.Native.Nat.{ℕ, _≤_};
 ghost use lib.ListN.{length as size, getD};
-ghost use Rattle.nonblocking.specs.Link.{linkAt, impossible};
-ghost use Rattle.nonblocking.specs.Call.{masterWrite, masterWriteRead, masterRead};
-ghost use Rattle.nonblocking.specs.Plan.{writeStart, readStart, goodLength};
-ghost use Rattle.nonblocking.specs.Outcome.{outcome, settled, Matches};
+ghost use Rattle.ending.specs.Link.{linkAt, impossible};
+ghost use Rattle.ending.specs.Call.{masterWrite, masterWriteRead, masterRead};
+ghost use Rattle.ending.specs.Plan.{writeStart, readStart, goodLength};
+ghost use Rattle.nonblocking.specs.Model.{model};
+ghost use Rattle.ending.specs.Outcome.{outcome, settled, Matches};
 use crate::bytes::clear;
 use crate::bytes::copy_in;
 use crate::link::Called;
@@ -133,7 +134,7 @@ pub fn read_fields(
 impl Link {
     // Sends the bytes. They are copied to the link's buffer.
     pub fn master_write(self, addr: u16, bytes: &[u8], words: &[u32], log: &mut [u32]) -> Called
-        ensures { λ r. ⌜ Matches (outcome (record { call = masterWrite addr (now (bytes .entry)); words = now (words .entry); places = size (now (log .entry)) }) self) (r .report) (r .link) (now (log .entry)) (now (log .exit)) ⌝ }
+        ensures { λ r. ⌜ Matches (outcome (record { call = masterWrite addr (now (bytes .entry)); words = now (words .entry); places = size (now (log .entry)) }) (model self)) (r .report) (model (r .link)) (now (log .entry)) (now (log .exit)) ⌝ }
     {
         self.write(addr, bytes, 0, true, words, log)
     }
@@ -147,7 +148,7 @@ impl Link {
         words: &[u32],
         log: &mut [u32],
     ) -> Called
-        ensures { λ r. ⌜ Matches (outcome (record { call = masterWriteRead addr (now (bytes .entry)) «read_len»; words = now (words .entry); places = size (now (log .entry)) }) self) (r .report) (r .link) (now (log .entry)) (now (log .exit)) ⌝ }
+        ensures { λ r. ⌜ Matches (outcome (record { call = masterWriteRead addr (now (bytes .entry)) «read_len»; words = now (words .entry); places = size (now (log .entry)) }) (model self)) (r .report) (model (r .link)) (now (log .entry)) (now (log .exit)) ⌝ }
     {
         self.write(addr, bytes, read_len as usize, false, words, log)
     }
@@ -161,7 +162,7 @@ impl Link {
         words: &[u32],
         log: &mut [u32],
     ) -> Called
-        ensures { λ r. ⌜ Matches (settled (impossible self) (writeStart addr (now (bytes .entry)) «read_len» autoend (getD (now (words .entry)) 0 0) (getD (now (words .entry)) 1 0) self) (now (words .entry)) (size (now (log .entry))) self) (r .report) (r .link) (now (log .entry)) (now (log .exit)) ⌝ }
+        ensures { λ r. ⌜ Matches (settled (impossible (model self)) (writeStart addr (now (bytes .entry)) «read_len» autoend (getD (now (words .entry)) 0 0) (getD (now (words .entry)) 1 0) (model self)) (now (words .entry)) (size (now (log .entry))) (model self)) (r .report) (model (r .link)) (now (log .entry)) (now (log .exit)) ⌝ }
     {
         let mut address = self.address;
         let mut watchdog = self.watchdog;
@@ -199,7 +200,7 @@ impl Link {
 
     // Receives bytes into the link's buffer.
     pub fn master_read(self, addr: u16, read_len: u8, words: &[u32], log: &mut [u32]) -> Called
-        ensures { λ r. ⌜ Matches (outcome (record { call = masterRead addr «read_len»; words = now (words .entry); places = size (now (log .entry)) }) self) (r .report) (r .link) (now (log .entry)) (now (log .exit)) ⌝ }
+        ensures { λ r. ⌜ Matches (outcome (record { call = masterRead addr «read_len»; words = now (words .entry); places = size (now (log .entry)) }) (model self)) (r .report) (model (r .link)) (now (log .entry)) (now (log .exit)) ⌝ }
     {
         let mut address = self.address;
         let mut watchdog = self.watchdog;

@@ -1,7 +1,7 @@
--- The equal-ending statement, proved in `proofs/Theorem.antt`.
+-- The equal-ending statement, proved in the crate `ending`, `proofs/Theorem.antt`.
 use Rattle.nonblocking.proofs.equal_ending.Statement.{statement}
 use Rattle.nonblocking.proofs.equal_ending.Tie as tie
-use Rattle.nonblocking.proofs.Theorem.{equal-ending}
+use Rattle.ending.proofs.Theorem.{equal-ending}
 
 returns : tie.Need-returns
 returns c = equal-ending

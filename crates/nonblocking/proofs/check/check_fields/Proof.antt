@@ -1,8 +1,8 @@
 -- `nonblocking::check::check_fields` meets its contract: the flag chooses the step.
 use mathlib.Core.Path.{_≡_, sym, _∙_}
 use Rattle.registers.specs.declared.isr.Flag.the-variants.{Berr, Arlo, Nackf, Txis, Rxne, Stopf, Tc, Tcr, Addr, Nothing}
-use Rattle.nonblocking.specs.Link.{linkAt}
-use Rattle.nonblocking.specs.Call.{checkIsrFlags}
+use Rattle.ending.specs.Link.{linkAt}
+use Rattle.ending.specs.Call.{checkIsrFlags}
 use Rattle.nonblocking.proofs.Outcomes.{outcome-12, check-by, length-255}
 use borrow.Author.Needs.{needs}
 use Rattle.nonblocking.proofs.check.check_fields.Statement.{statement}

@@ -7,9 +7,9 @@ use mathlib.Core.List.{[]}
 use lib.ListN.{getD}
 use borrow.Author.Tests.{eq-eqb, ne-eqb}
 use Rattle.registers.specs.Answers.{says}
-use Rattle.nonblocking.specs.Link.{linkAt, withWatchdog, common}
-use Rattle.nonblocking.specs.Call.{executeWatchdog}
-use Rattle.nonblocking.specs.Plan.{onWatchdog, changed}
+use Rattle.ending.specs.Link.{linkAt, withWatchdog, common}
+use Rattle.ending.specs.Call.{executeWatchdog}
+use Rattle.ending.specs.Plan.{onWatchdog, changed}
 use Rattle.nonblocking.proofs.Outcomes.{outcome-12, outcome-of, bare}
 use Rattle.nonblocking.proofs.Settling.{kept, gone}
 use borrow.Author.Needs.{needs}

@@ -5,9 +5,9 @@ use mathlib.Core.Bool.{true, false}
 use mathlib.Core.List.{[]}
 use lib.ListN.{getD}
 use Rattle.registers.specs.Answers.{says}
-use Rattle.nonblocking.specs.Link.{linkAt}
-use Rattle.nonblocking.specs.Call.{slaveWrite}
-use Rattle.nonblocking.specs.Plan.{onSlaveWrite}
+use Rattle.ending.specs.Link.{linkAt}
+use Rattle.ending.specs.Call.{slaveWrite}
+use Rattle.ending.specs.Plan.{onSlaveWrite}
 use Rattle.nonblocking.proofs.Outcomes.{outcome-12, outcome-of, bare, good-255}
 use Rattle.nonblocking.proofs.Settling.{kept, gone}
 use borrow.Author.Needs.{needs}

@@ -2,7 +2,7 @@
 use mathlib.Core.Path.{refl}
 use native.Mathlib.Omega.{arith}
 use Rattle.registers.specs.declared.isr.Flag.the-variants.{Berr}
-use Rattle.nonblocking.specs.Link.{linkAt}
+use Rattle.ending.specs.Link.{linkAt}
 use Rattle.nonblocking.specs.Arms.{flagPlan}
 use Rattle.nonblocking.proofs.Settling.{kept, gone}
 use borrow.Author.Needs.{needs}

@@ -1,6 +1,6 @@
 -- `nonblocking::steps::one_more` meets its contract.
 use borrow.Author.Tests.{lt-ltb, le-ltb}
-use Rattle.nonblocking.specs.Link.{oneMore}
+use Rattle.ending.specs.Link.{oneMore}
 use borrow.Author.Needs.{needs}
 use Rattle.nonblocking.proofs.steps.one_more.Statement.{statement}
 use Rattle.nonblocking.proofs.steps.one_more.Tie as tie

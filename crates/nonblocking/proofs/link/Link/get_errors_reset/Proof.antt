@@ -1,9 +1,10 @@
 -- `nonblocking::link::Link::get_errors_reset` meets its contract.
 use mathlib.Core.Path.{_≡_, refl, sym, _∙_}
 use mathlib.Core.List.{[], _∷_}
-use Rattle.nonblocking.specs.Call.{getErrorsReset}
-use Rattle.nonblocking.specs.Link.{common, linkOf}
+use Rattle.ending.specs.Call.{getErrorsReset}
+use Rattle.ending.specs.Link.{common, linkOf}
 use Rattle.registers.specs.Answers.{says}
+use Rattle.nonblocking.specs.Model.{model}
 use Rattle.nonblocking.proofs.Outcomes.{outcome-12, outcome-of, bare}
 use Rattle.nonblocking.proofs.link.Link.get_errors_reset.Statement.{statement}
 use Rattle.nonblocking.proofs.link.Link.get_errors_reset.Tie as tie
@@ -11,13 +12,13 @@ use Rattle.nonblocking.proofs.link.Link.get_errors_reset.Tie as tie
 returns : tie.Need-returns
 returns c =
     λ words log.
-    let x = c .before .before .before .args .self in
+    let x = model (c .before .before .before .args .self) in
     outcome-12 getErrorsReset words x (sym (c .before .before .impossible .ensures) ∙ c .before .if1 .taken) (c .refused .ensures)
 
 returns-2 : tie.Need-returns-2
 returns-2 c =
     λ words log.
-    let x = c .before .before .before .args .self in
+    let x = model (c .before .before .before .args .self) in
     outcome-of getErrorsReset words x (sym (c .before .before .impossible .ensures) ∙ c .before .if1 .left)
     (rw (c .refused2 .ensures) (bare (says 0x45 (x .errors ∷ [])) [] words x (linkOf (common x) 0 (x .«length_write_read») (x .«data»)) refl refl refl refl))
 

@@ -1,5 +1,5 @@
 -- `nonblocking::link::Link::master_write_read` meets its contract.
-use Rattle.nonblocking.specs.Outcome.{outcome}
+use Rattle.ending.specs.Outcome.{outcome}
 use borrow.Author.Needs.{needs}
 use Rattle.nonblocking.proofs.link.Link.master_write_read.Statement.{statement}
 use Rattle.nonblocking.proofs.link.Link.master_write_read.Tie as tie

@@ -1,6 +1,6 @@
 -- `nonblocking::link::Link::tell` meets its contract.
 use mathlib.Core.Path.{_≡_, refl, sym, _∙_}
-use Rattle.nonblocking.specs.Link.{impossible}
+use Rattle.ending.specs.Link.{impossible}
 use Rattle.nonblocking.proofs.link.Link.tell.Statement.{statement}
 use Rattle.nonblocking.proofs.link.Link.tell.Tie as tie
 

@@ -8,14 +8,14 @@ use lib.ListN.{length, getD}
 use lib.Dec.{T, ltb, leb}
 use borrow.Author.Tests.{ltb-false}
 use Rattle.registers.specs.Access.{Access, reads, entries}
-use Rattle.nonblocking.specs.declared.link.Link.{Link}
-use Rattle.nonblocking.specs.Link.{linkOf, impossibleAt, impossible}
-use Rattle.nonblocking.specs.Call.{Call, Step}
-use Rattle.nonblocking.specs.Plan.{Plan}
-use Rattle.nonblocking.specs.Outcome.{Outcome, settle, planAt, outcome}
-use Rattle.nonblocking.specs.Book.{Book, eventOf, clean}
-use Rattle.nonblocking.proofs.Agree.{Twins, twins}
-use Rattle.nonblocking.proofs.OneCall.{Alike, Both, call-both}
+use Rattle.ending.specs.Link.{Link}
+use Rattle.ending.specs.Link.{linkOf, impossibleAt, impossible}
+use Rattle.ending.specs.Call.{Call, Step}
+use Rattle.ending.specs.Plan.{Plan}
+use Rattle.ending.specs.Outcome.{Outcome, settle, planAt, outcome}
+use Rattle.ending.specs.Book.{Book, eventOf, clean}
+use Rattle.ending.proofs.Agree.{Twins, twins}
+use Rattle.ending.proofs.OneCall.{Alike, Both, call-both}
 
 -- two outcomes of a call are alike
 abbrev pub AlikeAt : Call → Book → Outcome → Outcome → Type 0

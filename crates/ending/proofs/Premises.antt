@@ -10,12 +10,12 @@ use Rattle.registers.specs.Words.{sized}
 use Rattle.registers.specs.Words.{started as startWord}
 use Rattle.registers.specs.Flags.{takenAs, directionOf}
 use Rattle.registers.specs.Answers.{says}
-use Rattle.nonblocking.specs.Link.{fresh, oneMore, impossible}
-use Rattle.nonblocking.specs.Call.{Call, Step, masterWrite, masterWriteRead, masterRead, checkIsrFlags, masterGetData, roleOf, isStart}
-use Rattle.nonblocking.specs.Outcome.{outcome}
-use Rattle.nonblocking.specs.Book.{Event}
-use Rattle.nonblocking.specs.EqualEnding.{step, ran, seen, Clean}
-use Rattle.nonblocking.proofs.Runs.{go, flag, started, bookOf, eventsOf, fed}
+use Rattle.ending.specs.Link.{fresh, oneMore, impossible}
+use Rattle.ending.specs.Call.{Call, Step, masterWrite, masterWriteRead, masterRead, checkIsrFlags, masterGetData, roleOf, isStart}
+use Rattle.ending.specs.Outcome.{outcome}
+use Rattle.ending.specs.Book.{Event}
+use Rattle.ending.specs.EqualEnding.{step, ran, seen, Clean}
+use Rattle.ending.proofs.Runs.{go, flag, started, bookOf, eventsOf, fed}
 
 -- a history with an error, a second-half length of 5, and the bytes 8 and 9; the other history is empty
 abbrev busy : List Step

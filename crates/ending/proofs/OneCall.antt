@@ -10,15 +10,15 @@ use Rattle.registers.specs.Words.{starting}
 use Rattle.registers.specs.Flags.{takenAs}
 use Rattle.registers.specs.Access.{Access, read, reads, entries}
 use Rattle.registers.specs.Answers.{Said, says}
-use Rattle.nonblocking.specs.declared.link.Link.{Link}
-use Rattle.nonblocking.specs.Link.{Common, linkOf, begun, turned, withWatchdog, oneMore}
-use Rattle.nonblocking.specs.Call.{Call, masterWrite, masterWriteRead, masterRead, slaveWrite, checkIsrFlags, executeWatchdog, getErrorsReset, masterGetData, slaveGetData, getAddress, listen, unlisten, slaveSbc, setAddress}
-use Rattle.nonblocking.specs.Plan.{Plan, plan, onStart, goodLength, onSlaveWrite, onWatchdog, tells, shows, planOf}
-use Rattle.nonblocking.specs.Book.{Book, Event, Receiving, closed, byRead, byBus, feed, clean}
-use Rattle.nonblocking.specs.EqualEnding.{hide, hideShown, hideTold, Sourced}
-use Rattle.nonblocking.proofs.Lists.{zeros-same, take-same}
-use Rattle.nonblocking.proofs.Agree.{Phase, Own, Agree, Twins, twins, own-over, with-errors, told-agree, both-at, front-same, opened-agree, written-agree}
-use Rattle.nonblocking.proofs.OneCheck.{seenAs, flag-tail, and-right, nothing-shown}
+use Rattle.ending.specs.Link.{Link}
+use Rattle.ending.specs.Link.{Common, linkOf, begun, turned, withWatchdog, oneMore}
+use Rattle.ending.specs.Call.{Call, masterWrite, masterWriteRead, masterRead, slaveWrite, checkIsrFlags, executeWatchdog, getErrorsReset, masterGetData, slaveGetData, getAddress, listen, unlisten, slaveSbc, setAddress}
+use Rattle.ending.specs.Plan.{Plan, plan, onStart, goodLength, onSlaveWrite, onWatchdog, tells, shows, planOf}
+use Rattle.ending.specs.Book.{Book, Event, Receiving, closed, byRead, byBus, feed, clean}
+use Rattle.ending.specs.EqualEnding.{hide, hideShown, hideTold, Sourced}
+use Rattle.ending.proofs.Lists.{zeros-same, take-same}
+use Rattle.ending.proofs.Agree.{Phase, Own, Agree, Twins, twins, own-over, with-errors, told-agree, both-at, front-same, opened-agree, written-agree}
+use Rattle.ending.proofs.OneCheck.{seenAs, flag-tail, and-right, nothing-shown}
 
 -- one call as it is seen in both runs, and the links after it
 pub record Alike (b : Book) (s₁ s₂ : Event) (k₁ k₂ : Link) : Type 0 where

@@ -13,12 +13,12 @@ use Rattle.registers.specs.Words.{started as startWord}
 use Rattle.registers.specs.Flags.{takenAs, directionOf}
 use Rattle.registers.specs.Access.{Access, read, write}
 use Rattle.registers.specs.Answers.{says}
-use Rattle.nonblocking.specs.Link.{oneMore, impossible}
-use Rattle.nonblocking.specs.Call.{Call, Step, masterWrite, masterWriteRead, masterRead, slaveWrite, checkIsrFlags, getErrorsReset, masterGetData}
-use Rattle.nonblocking.specs.Outcome.{outcome}
-use Rattle.nonblocking.specs.Book.{byBus, opened, isRegister}
-use Rattle.nonblocking.specs.EqualEnding.{step, ran, seen, compared}
-use Rattle.nonblocking.proofs.Runs.{go, flag, bookOf, eventsOf, letIn, fed, lastOf}
+use Rattle.ending.specs.Link.{oneMore, impossible}
+use Rattle.ending.specs.Call.{Call, Step, masterWrite, masterWriteRead, masterRead, slaveWrite, checkIsrFlags, getErrorsReset, masterGetData}
+use Rattle.ending.specs.Outcome.{outcome}
+use Rattle.ending.specs.Book.{byBus, opened, isRegister}
+use Rattle.ending.specs.EqualEnding.{step, ran, seen, compared}
+use Rattle.ending.proofs.Runs.{go, flag, bookOf, eventsOf, letIn, fed, lastOf}
 
 -- ISR words: TXIS, ADDR with DIR clear, STOPF, TC
 abbrev txis : Step

@@ -12,12 +12,12 @@ use Rattle.registers.specs.Words.{starting, received}
 use Rattle.registers.specs.Flags.{takenAs}
 use Rattle.registers.specs.Access.{Access, reads, entries}
 use Rattle.registers.proofs.Over.{over-length}
-use Rattle.nonblocking.specs.declared.link.Link.{Link}
-use Rattle.nonblocking.specs.Link.{fresh, impossible}
-use Rattle.nonblocking.specs.Call.{Call, Step, masterWrite, masterWriteRead, masterRead, slaveWrite, checkIsrFlags, executeWatchdog, getErrorsReset, masterGetData, slaveGetData, getAddress, listen, unlisten, slaveSbc, setAddress}
-use Rattle.nonblocking.specs.Plan.{Plan, raised, onTxis, onFull, onRxne, onStopf, onTcAt, onAddr, onFlag, onStart, goodLength, onSlaveWrite, onWatchdog, planOf}
-use Rattle.nonblocking.specs.Outcome.{settle, planAt, outcome}
-use Rattle.nonblocking.specs.EqualEnding.{ran}
+use Rattle.ending.specs.Link.{Link}
+use Rattle.ending.specs.Link.{fresh, impossible}
+use Rattle.ending.specs.Call.{Call, Step, masterWrite, masterWriteRead, masterRead, slaveWrite, checkIsrFlags, executeWatchdog, getErrorsReset, masterGetData, slaveGetData, getAddress, listen, unlisten, slaveSbc, setAddress}
+use Rattle.ending.specs.Plan.{Plan, raised, onTxis, onFull, onRxne, onStopf, onTcAt, onAddr, onFlag, onStart, goodLength, onSlaveWrite, onWatchdog, planOf}
+use Rattle.ending.specs.Outcome.{settle, planAt, outcome}
+use Rattle.ending.specs.EqualEnding.{ran}
 
 -- how many bytes the link holds
 abbrev size : Link → ℕ

@@ -12,11 +12,11 @@ use lib.Dec.{T, eqb, ltb}
 use borrow.Author.Tests.{ltb-true, eqb-true, eqb-false}
 use Rattle.registers.specs.Access.{over}
 use Rattle.registers.proofs.Over.{over-length}
-use Rattle.nonblocking.specs.declared.link.Link.{Link}
-use Rattle.nonblocking.specs.Link.{Common, linkOf}
-use Rattle.nonblocking.specs.Plan.{raised}
-use Rattle.nonblocking.specs.Book.{Book, Receiving, closed, byRead, byBus, isOpen, empty, written, opened, putAt, filled, told, risen}
-use Rattle.nonblocking.proofs.Lists.{none-some, set-same, over-put, element, take-same, in-front, front-at}
+use Rattle.ending.specs.Link.{Link}
+use Rattle.ending.specs.Link.{Common, linkOf}
+use Rattle.ending.specs.Plan.{raised}
+use Rattle.ending.specs.Book.{Book, Receiving, closed, byRead, byBus, isOpen, empty, written, opened, putAt, filled, told, risen}
+use Rattle.ending.proofs.Lists.{none-some, set-same, over-put, element, take-same, in-front, front-at}
 
 -- a place of the book holds a byte
 abbrev pub Filled : (ℕ → Option ℕ) → ℕ → Type 0

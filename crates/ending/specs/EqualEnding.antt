@@ -16,11 +16,11 @@ use mathlib.Core.List.{List, [], _∷_}
 use lib.ListN.{length, getD}
 use lib.Dec.{T}
 use Rattle.registers.specs.Answers.{says}
-use Rattle.nonblocking.specs.declared.link.Link.{Link}
-use Rattle.nonblocking.specs.Link.{fresh}
-use Rattle.nonblocking.specs.Call.{Call, Step, Role, masterWrites, slaveWrites, masterReads, checks, tellsErrors, showsMaster, other, roleOf, isStart}
-use Rattle.nonblocking.specs.Outcome.{outcome}
-use Rattle.nonblocking.specs.Book.{Book, Event, eventOf, Receiving, closed, byRead, byBus, blank, feed, isData, clean}
+use Rattle.ending.specs.Link.{Link}
+use Rattle.ending.specs.Link.{fresh}
+use Rattle.ending.specs.Call.{Call, Step, Role, masterWrites, slaveWrites, masterReads, checks, tellsErrors, showsMaster, other, roleOf, isStart}
+use Rattle.ending.specs.Outcome.{outcome}
+use Rattle.ending.specs.Book.{Book, Event, eventOf, Receiving, closed, byRead, byBus, blank, feed, isData, clean}
 
 -- what is not compared is blanked
 abbrev pub hideShown : Receiving → Event → Event

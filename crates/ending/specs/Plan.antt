@@ -11,9 +11,9 @@ use Rattle.registers.specs.Words.{powered, interrupts, byteControl, sadd16, sta
 use Rattle.registers.specs.Flags.{takenAs, directionOf, addressCode}
 use Rattle.registers.specs.Access.{Access, read, write, over}
 use Rattle.registers.specs.Answers.{Said, says, directionNumber}
-use Rattle.nonblocking.specs.declared.link.Link.{Link}
-use Rattle.nonblocking.specs.Link.{Common, common, linkOf, begun, turned, atIndex, withWatchdog, addressed, oneMore}
-use Rattle.nonblocking.specs.Call.{Call, masterWrite, masterWriteRead, masterRead, slaveWrite, checkIsrFlags, executeWatchdog, getErrorsReset, masterGetData, slaveGetData, getAddress, listen, unlisten, slaveSbc, setAddress}
+use Rattle.ending.specs.Link.{Link}
+use Rattle.ending.specs.Link.{Common, common, linkOf, begun, turned, atIndex, withWatchdog, addressed, oneMore}
+use Rattle.ending.specs.Call.{Call, masterWrite, masterWriteRead, masterRead, slaveWrite, checkIsrFlags, executeWatchdog, getErrorsReset, masterGetData, slaveGetData, getAddress, listen, unlisten, slaveSbc, setAddress}
 
 pub record Plan : Type 0 where
   pub accesses : List Access

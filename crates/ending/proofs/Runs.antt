@@ -2,11 +2,11 @@
 use Prim.Native.Nat.{ℕ}
 use mathlib.Core.Bool.{Bool}
 use mathlib.Core.List.{List, [], _∷_}
-use Rattle.nonblocking.specs.Link.{fresh}
-use Rattle.nonblocking.specs.Call.{Call, Step, checkIsrFlags}
-use Rattle.nonblocking.specs.Outcome.{Outcome, outcome}
-use Rattle.nonblocking.specs.Book.{Book, Event, eventOf, blank, feed, clean}
-use Rattle.nonblocking.specs.EqualEnding.{step, ran, seen}
+use Rattle.ending.specs.Link.{fresh}
+use Rattle.ending.specs.Call.{Call, Step, checkIsrFlags}
+use Rattle.ending.specs.Outcome.{Outcome, outcome}
+use Rattle.ending.specs.Book.{Book, Event, eventOf, blank, feed, clean}
+use Rattle.ending.specs.EqualEnding.{step, ran, seen}
 
 -- a call that reads zeros, and a check that reads this ISR word and then zeros; the log has room
 abbrev pub go : Call → Step

@@ -13,14 +13,14 @@ use Rattle.registers.specs.Layout.{CR2, TXDR, DIR, RXNE, _has_}
 use Rattle.registers.specs.Words.{sadd16, started, sent, received}
 use Rattle.registers.specs.Access.{Access, write, reads, entries}
 use Rattle.registers.specs.Answers.{Said, says}
-use Rattle.nonblocking.specs.declared.link.Link.{Link}
-use Rattle.nonblocking.specs.Link.{Common, linkOf, begun, turned, atIndex, withWatchdog, addressed, oneMore}
-use Rattle.nonblocking.specs.Call.{Call, checkIsrFlags}
-use Rattle.nonblocking.specs.Plan.{Plan, raised, onTxis, onFull, onRxne, onStopf, onTcAt, onAddr, onFlag}
-use Rattle.nonblocking.specs.Book.{Book, Event, Receiving, closed, byRead, byBus, isOpen, opened, risen, byFlag, isRefused, cleanFlag}
-use Rattle.nonblocking.specs.EqualEnding.{Sourced}
-use Rattle.nonblocking.proofs.StartSet.{start-set}
-use Rattle.nonblocking.proofs.Agree.{Phase, Agree, Twins, twins, with-errors, both-at, front-same, front-place₁, front-place₂, risen-agree, filled-agree, opened-agree}
+use Rattle.ending.specs.Link.{Link}
+use Rattle.ending.specs.Link.{Common, linkOf, begun, turned, atIndex, withWatchdog, addressed, oneMore}
+use Rattle.ending.specs.Call.{Call, checkIsrFlags}
+use Rattle.ending.specs.Plan.{Plan, raised, onTxis, onFull, onRxne, onStopf, onTcAt, onAddr, onFlag}
+use Rattle.ending.specs.Book.{Book, Event, Receiving, closed, byRead, byBus, isOpen, opened, risen, byFlag, isRefused, cleanFlag}
+use Rattle.ending.specs.EqualEnding.{Sourced}
+use Rattle.ending.proofs.StartSet.{start-set}
+use Rattle.ending.proofs.Agree.{Phase, Agree, Twins, twins, with-errors, both-at, front-same, front-place₁, front-place₂, risen-agree, filled-agree, opened-agree}
 
 -- a call that does what the plan says, as it is seen
 abbrev pub seenAs : Call → Plan → Event

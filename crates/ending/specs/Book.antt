@@ -13,8 +13,8 @@ use Rattle.registers.specs.Words.{starting, received}
 use Rattle.registers.specs.Flags.{takenAs}
 use Rattle.registers.specs.Access.{Access, read, write}
 use Rattle.registers.specs.Answers.{Said}
-use Rattle.nonblocking.specs.Call.{Call, Role, masterWrites, slaveWrites, masterReads, checks, tellsErrors, showsMaster, other, roleOf}
-use Rattle.nonblocking.specs.Outcome.{Outcome}
+use Rattle.ending.specs.Call.{Call, Role, masterWrites, slaveWrites, masterReads, checks, tellsErrors, showsMaster, other, roleOf}
+use Rattle.ending.specs.Outcome.{Outcome}
 
 pub record Event : Type 0 where
   pub call : Call

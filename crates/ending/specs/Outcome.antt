@@ -9,10 +9,10 @@ use Rattle.registers.specs.declared.access.Report.{Report}
 use Rattle.registers.specs.declared.answer.Answer.the-variants.{ImpossibleLink}
 use Rattle.registers.specs.Access.{Access, reads, entries, over}
 use Rattle.registers.specs.Answers.{Said, says, said}
-use Rattle.nonblocking.specs.declared.link.Link.{Link}
-use Rattle.nonblocking.specs.Link.{impossible}
-use Rattle.nonblocking.specs.Call.{Step}
-use Rattle.nonblocking.specs.Plan.{Plan, planOf}
+use Rattle.ending.specs.Link.{Link}
+use Rattle.ending.specs.Link.{impossible}
+use Rattle.ending.specs.Call.{Step}
+use Rattle.ending.specs.Plan.{Plan, planOf}
 
 pub record Outcome : Type 0 where
   pub accesses : List Access

@@ -9,20 +9,20 @@ use lib.Dec.{T, ltb, leb}
 use Rattle.registers.specs.Words.{starting}
 use Rattle.registers.specs.Access.{Access, reads, entries}
 use Rattle.registers.specs.Answers.{Said, says}
-use Rattle.nonblocking.specs.declared.link.Link.{Link}
-use Rattle.nonblocking.specs.Link.{fresh, begun, impossible}
-use Rattle.nonblocking.specs.Call.{Call, Step, masterWrite, masterWriteRead, masterRead, slaveWrite, checkIsrFlags, executeWatchdog, getErrorsReset, masterGetData, slaveGetData, getAddress, listen, unlisten, slaveSbc, setAddress}
-use Rattle.nonblocking.specs.Call.{Role, masterWrites, slaveWrites, masterReads, checks, tellsErrors, showsMaster, other, roleOf, isStart}
-use Rattle.nonblocking.specs.Plan.{Plan, onStart, goodLength, planOf}
-use Rattle.nonblocking.specs.Outcome.{Outcome, settle, planAt, outcome}
-use Rattle.nonblocking.specs.Book.{Book, Event, eventOf, byRead, blank, written, opened, isDone, isRefused, byRole, feed}
-use Rattle.nonblocking.specs.EqualEnding.{ran, seen, compared, Clean, AllSourced, step, EqualEnding}
-use Rattle.nonblocking.proofs.Lists.{zeros-same}
-use Rattle.nonblocking.proofs.Agree.{Own, Twins, twins, own-over, opened-agree, written-agree}
-use Rattle.nonblocking.proofs.OneCheck.{seenAs}
-use Rattle.nonblocking.proofs.OneCall.{good-fits}
-use Rattle.nonblocking.proofs.OneStep.{possible-second, step-alike}
-use Rattle.nonblocking.proofs.Histories.{history-room}
+use Rattle.ending.specs.Link.{Link}
+use Rattle.ending.specs.Link.{fresh, begun, impossible}
+use Rattle.ending.specs.Call.{Call, Step, masterWrite, masterWriteRead, masterRead, slaveWrite, checkIsrFlags, executeWatchdog, getErrorsReset, masterGetData, slaveGetData, getAddress, listen, unlisten, slaveSbc, setAddress}
+use Rattle.ending.specs.Call.{Role, masterWrites, slaveWrites, masterReads, checks, tellsErrors, showsMaster, other, roleOf, isStart}
+use Rattle.ending.specs.Plan.{Plan, onStart, goodLength, planOf}
+use Rattle.ending.specs.Outcome.{Outcome, settle, planAt, outcome}
+use Rattle.ending.specs.Book.{Book, Event, eventOf, byRead, blank, written, opened, isDone, isRefused, byRole, feed}
+use Rattle.ending.specs.EqualEnding.{ran, seen, compared, Clean, AllSourced, step, EqualEnding}
+use Rattle.ending.proofs.Lists.{zeros-same}
+use Rattle.ending.proofs.Agree.{Own, Twins, twins, own-over, opened-agree, written-agree}
+use Rattle.ending.proofs.OneCheck.{seenAs}
+use Rattle.ending.proofs.OneCall.{good-fits}
+use Rattle.ending.proofs.OneStep.{possible-second, step-alike}
+use Rattle.ending.proofs.Histories.{history-room}
 
 -- twins end alike: the whole list after the start
 ending : (steps : List Step) (b : Book) (l₁ l₂ : Link) → Twins b l₁ l₂ → Clean b (seen l₁ steps) →

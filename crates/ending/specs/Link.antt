@@ -4,7 +4,16 @@ use mathlib.Core.Bool.{Bool, cond, _||_}
 use mathlib.Core.List.{List}
 use lib.Dec.{ltb}
 use lib.ListN.{replicate}
-use Rattle.nonblocking.specs.declared.link.Link.{Link}
+
+-- what a link holds between calls: for a `master_write_read` the length of the read that follows, and the bytes
+pub record Link : Type 0 where
+  pub address : ℕ
+  pub watchdog : ℕ
+  pub index : ℕ
+  pub length : ℕ
+  pub errors : ℕ
+  pub «length_write_read» : ℕ
+  pub «data» : List ℕ
 
 -- the part of a link that is the same, after a common start, whatever was before
 pub record Common : Type 0 where

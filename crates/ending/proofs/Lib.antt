@@ -1,0 +1,11 @@
+pub mod Agree
+pub mod Histories
+pub mod Lists
+pub mod Needed
+pub mod OneCall
+pub mod OneCheck
+pub mod OneStep
+pub mod Premises
+pub mod Runs
+pub mod StartSet
+pub mod Theorem
