@@ -1,3 +1,4 @@
 pub mod Laid
+pub mod Lending
 pub mod Outcomes
 pub mod Settling

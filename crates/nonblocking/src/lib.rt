@@ -6,6 +6,7 @@ pub mod check;
 pub mod construct;
 pub mod control;
 pub mod getters;
+pub mod lent;
 pub mod link;
 pub mod slave;
 pub mod starts;
