@@ -6,6 +6,7 @@ pub mod OneCall
 pub mod OneCheck
 pub mod OneStep
 pub mod Premises
+pub mod Rows
 pub mod Runs
 pub mod StartSet
 pub mod Theorem

@@ -1,0 +1,75 @@
+-- Rows of document 01's bench table that speak of the non-blocking driver, and document 01's walk, by computation.
+use mathlib.Core.Path.{_≡_, refl}
+use mathlib.Core.List.{List, [], _∷_, map}
+use Prim.Native.Nat.{ℕ}
+use Rattle.registers.specs.Field.{get, put, isSet}
+use Rattle.registers.specs.Layout.{CR2, ISR, ICR, TXDR, RXDR}
+use Rattle.registers.specs.Words.{started}
+use Rattle.registers.specs.Flags.{takenAs, directionOf}
+use Rattle.registers.specs.Access.{Access, read, write}
+use Rattle.registers.specs.Answers.{Said, says}
+use Rattle.ending.specs.Link.{fresh, oneMore, impossible}
+use Rattle.ending.specs.Call.{Call, Step, masterWrite, masterWriteRead, checkIsrFlags, getErrorsReset}
+use Rattle.ending.specs.Outcome.{outcome}
+use Rattle.ending.specs.Book.{Event}
+use Rattle.ending.specs.EqualEnding.{step, ran, seen}
+
+-- the answers and the accesses of steps on a fresh link
+abbrev answers : List Step → List Said
+answers steps = map (λ (e : Event). e .answer) (seen fresh steps)
+
+abbrev accesses : List Step → List (List Access)
+accesses steps = map (λ (e : Event). e .accesses) (seen fresh steps)
+
+abbrev check : List ℕ → Step
+check words = step checkIsrFlags words 10
+
+-- `master_write` to 0x50, 2 bytes, CR2 0
+write-two : accesses (step (masterWrite 0x50 (1 ∷ 2 ∷ [])) (0 ∷ 0 ∷ []) 10 ∷ []) ≡ (read CR2 0 ∷ read CR2 0 ∷ write CR2 0x020220A0 ∷ []) ∷ []
+unfolding seen outcome impossible started isSet get put
+write-two = refl
+
+-- `master_write` of 0 bytes: 6; with START set: 1
+write-none : answers (step (masterWrite 0x50 []) (0 ∷ []) 10 ∷ step (masterWrite 0x50 []) (0x2000 ∷ []) 10 ∷ []) ≡ says 6 [] ∷ says 1 [] ∷ []
+unfolding seen outcome impossible isSet get
+write-none = refl
+
+-- STOPF on a fresh link: 2, errors 1
+stop-fresh : answers (check (0x20 ∷ []) ∷ step getErrorsReset [] 0 ∷ []) ≡ says 2 [] ∷ says 0x45 (1 ∷ []) ∷ []
+unfolding seen outcome impossible oneMore takenAs isSet get
+stop-fresh = refl
+
+-- a lost bus is answered 4, and is not counted as an error
+lost-bus : answers (check (0x200 ∷ []) ∷ step getErrorsReset [] 0 ∷ []) ≡ says 4 [] ∷ says 0x45 (0 ∷ []) ∷ []
+unfolding seen outcome impossible takenAs isSet get
+lost-bus = refl
+
+-- document 01's walk: its words, accesses and answers
+walk : List Step
+walk =
+    step (masterWriteRead 0x50 (0x01 ∷ 0x40 ∷ []) 2) (0 ∷ 0 ∷ []) 10
+    ∷ check (0x02 ∷ [])
+    ∷ check (0x02 ∷ [])
+    ∷ check (0x40 ∷ [])
+    ∷ check (0x04 ∷ 0x3C ∷ [])
+    ∷ check (0x04 ∷ 0x7E ∷ [])
+    ∷ check (0x20 ∷ [])
+    ∷ []
+
+walk-accesses :
+    accesses walk
+    ≡ (read CR2 0 ∷ read CR2 0 ∷ write CR2 0x000220A0 ∷ [])
+    ∷ (read ISR 0x02 ∷ write TXDR 0x01 ∷ [])
+    ∷ (read ISR 0x02 ∷ write TXDR 0x40 ∷ [])
+    ∷ (read ISR 0x40 ∷ write CR2 0x020224A0 ∷ [])
+    ∷ (read ISR 0x04 ∷ read RXDR 0x3C ∷ [])
+    ∷ (read ISR 0x04 ∷ read RXDR 0x7E ∷ [])
+    ∷ (read ISR 0x20 ∷ write ICR 0x20 ∷ [])
+    ∷ []
+unfolding walk seen outcome impossible started takenAs isSet get put
+walk-accesses = refl
+
+walk-answers :
+    answers walk ≡ says 0 [] ∷ says 1 [] ∷ says 1 [] ∷ says 1 [] ∷ says 1 [] ∷ says 1 [] ∷ says 0x44 (0x50 ∷ 1 ∷ 2 ∷ []) ∷ []
+unfolding walk seen outcome impossible started takenAs directionOf isSet get put
+walk-answers = refl
