@@ -1,0 +1,294 @@
+-- Laws of a run: one step of it, and how stretches of a run join.
+use mathlib.Core.Path.{_≡_, refl, sym, ap, ap₂, _∙_, subst}
+use mathlib.Core.Bool.{Bool, true, false}
+use mathlib.Core.List.{List, [], _∷_, _++_, append-assoc, append-nil}
+use Prim.Native.Nat.{ℕ, zero, suc, _+_, _-_, _/_, _≤_, _<_, zero-le}
+use native.Mathlib.Nat.{not-suc-le-zero, zero-add, add-assoc, suc-add, le-of-suc-le-suc, sub-zero, add-zero}
+use native.Mathlib.Omega.{arith}
+use lib.ListN.{length, getD, take, drop, set, length-drop, take-append-drop}
+use lib.Seq.{length-take-le, take-append-add, drop-drop, drop-at, drop-length}
+use borrow.Rule.Slice.PartAt.{part-to-end}
+use borrow.Rule.Slice.PartMut.{putMid, post-is}
+use Rattle.registers.specs.Answers.{says}
+use Rattle.registers.specs.Access.{over}
+use Rattle.blocking.specs.declared.End.{End}
+use Rattle.blocking.specs.declared.Phase.the-variants.{Ended}
+use Rattle.blocking.specs.declared.Next.{Next}
+use Rattle.blocking.specs.declared.Next.the-variants.{Read, Write, Over as OverA}
+use Rattle.blocking.specs.declared.Parked.{Parked}
+use Rattle.blocking.specs.declared.Kind.{Kind}
+use Rattle.blocking.specs.declared.Ran.{Ran}
+use Rattle.blocking.specs.declared.Turn.{Turn}
+use Rattle.blocking.specs.declared.Turn.the-variants.{Again, Found, Over}
+use Rattle.blocking.specs.declared.Progress.{Progress}
+use Rattle.blocking.specs.After.{answer, after}
+use Rattle.blocking.specs.Refusals.{lengths, begun, refused, wrong}
+use Rattle.blocking.specs.Run.{Outcome, stopped, joined, kept, next, runs, outcome, called, Whole}
+use Rattle.blocking.specs.Steps.{Answered, Told, Ends, Going, Turned, Forward}
+use Rattle.blocking.proofs.Phases.{wants-at}
+
+pub joined-none : (q : Outcome) → q ≡ joined 0 [] q
+joined-none q = rw zero-add
+
+pub joined-joined : (t u : ℕ) (l m : List ℕ) (q : Outcome) → joined t l (joined u m q) ≡ joined (t + u) (l ++ m) q
+joined-joined t u l m q = rw (add-assoc, append-assoc)
+
+two-set : (log : List ℕ) (o w : ℕ) → 2 ≤ length log → set (set log 0 o) 1 w ≡ o ∷ w ∷ drop 2 log
+two-set [] o w h = absurd (not-suc-le-zero h)
+two-set (x ∷ []) o w h = absurd (not-suc-le-zero (le-of-suc-le-suc h))
+two-set (x ∷ y ∷ r) o w h = refl
+
+-- room for a pair more
+room-more : (n : ℕ) → 2 ≤ n → n / 2 ≡ suc ((n - 2) / 2)
+room-more n h = omega arith
+
+pub room-none : (n : ℕ) → n < 2 → n / 2 ≡ 0
+room-none n h = omega arith
+
+module _ (s : List ℕ) (p : Parked) (b : List ℕ) where
+  pub run-over : (n : ℕ) (ws : List ℕ) (e : End) → next s p ≡ OverA e → runs s n p b ws ≡ stopped (answer e p) p b
+  unfolding runs
+  run-over zero ws e h = rw h
+  run-over (suc n) ws e h = rw h
+
+  pub run-out : (n : ℕ) (ws : List ℕ) (o : ℕ) (k : Bool) → next s p ≡ Read o k → length ws ≡ 0 → runs s n p b ws ≡ stopped (says 9 []) p b
+  unfolding runs
+  run-out zero [] o k e h = rw e
+  run-out (suc n) [] o k e h = rw e
+  run-out n (w ∷ ws) o k e h = absurd (omega arith)
+
+  pub full-read : (ws : List ℕ) (o : ℕ) (k : Bool) → next s p ≡ Read o k → (length ws ≡ 0 → ⊥) → runs s 0 p b ws ≡ stopped (says 10 []) p b
+  unfolding runs
+  full-read [] o k e h = absurd (h refl)
+  full-read (w ∷ ws) o k e h = rw e
+
+  pub full-write : (ws : List ℕ) (o w : ℕ) → next s p ≡ Write o w → runs s 0 p b ws ≡ stopped (says 10 []) p b
+  unfolding runs
+  full-write ws o w e = rw e
+
+  pub run-read : (n : ℕ) (ws : List ℕ) (o : ℕ) (k : Bool) → next s p ≡ Read o k → (length ws ≡ 0 → ⊥)
+      → runs s (suc n) p b ws ≡ joined 1 (o ∷ getD ws 0 0 ∷ []) (runs s n (after p (getD ws 0 0)) (kept k (p .count) (getD ws 0 0) b) (drop 1 ws))
+  unfolding runs
+  run-read n [] o k e h = absurd (h refl)
+  run-read n (w ∷ ws) o k e h = rw e
+
+  pub run-write : (n : ℕ) (ws : List ℕ) (o w : ℕ) → next s p ≡ Write o w
+      → runs s (suc n) p b ws ≡ joined 0 (o ∷ w ∷ []) (runs s n (after p 0) b ws)
+  unfolding runs
+  run-write n ws o w e = rw e
+
+pub turned-over : (s : List ℕ) (p : Parked) (b ws log : List ℕ) (a : End) (r : Progress)
+    → r ≡ record { turn = Over a; parked = p; taken = 0; logged = 0 } → runs s (length log / 2) p b ws ≡ stopped (answer a p) p b → Turned s p b ws log r b log
+turned-over s p b ws log a r e h =
+    rw e (record {
+      words = zero-le;
+      room = zero-le;
+      kept = refl;
+      run = rw sub-zero (joined-none (runs s (length log / 2) p b ws));
+      ends = rw sub-zero h;
+    })
+
+ends-at : (s : List ℕ) (p : Parked) (b ws : List ℕ) (n : ℕ) (u : Turn) → Told u p → Ends u 0 2 (runs s n p b ws) p b
+ends-at s p b ws n Again e = refl
+ends-at s p b ws n Found e = refl
+ends-at s p b ws n (Over a) e = run-over s p b n ws a (wants-at p _ (Ended a) e)
+
+pub turned-step : (s : List ℕ) (p p′ : Parked) (b b′ ws log : List ℕ) (t o w : ℕ) (u : Turn) → Told u p′ → 2 ≤ length log → t ≤ length ws
+    → ((n : ℕ) → runs s (suc n) p b ws ≡ joined t (o ∷ w ∷ []) (runs s n p′ b′ (drop t ws)))
+    → Turned s p b ws log (record { turn = u; parked = p′; taken = t; logged = 2 }) b′ (set (set log 0 o) 1 w)
+turned-step s p p′ b b′ ws log t o w u e h k f =
+    rw (two-set log o w h) (record {
+      words = k;
+      room = h;
+      kept = refl;
+      run = rw (room-more (length log) h) (f ((length log - 2) / 2));
+      ends = ends-at s p′ b′ (drop t ws) ((length log - 2) / 2) u e;
+    })
+
+further : (u : Turn) (g l : ℕ) (q : Outcome) (p : Parked) (b : List ℕ) → Ends u 0 l q p b → Ends u g (g + l) q p b
+further Again g l q p b e = rw e
+further Found g l q p b e = rw e
+further (Over a) g l q p b e = e
+
+module _ (s ws log b : List ℕ) (p : Progress) (r : Progress) (b′ ys : List ℕ) (ht : p .taken ≤ length ws) (hg : p .logged ≤ length log)
+    (hl : length ys ≡ length (drop (p .logged) log)) (h : Turned s (p .parked) b (drop (p .taken) ws) (drop (p .logged) log) r b′ ys) where
+  room-left : (start : List ℕ) → length start ≡ length log → length (drop (p .logged) log) - r .logged ≡ length start - (p .logged + r .logged)
+  room-left start e = omega (arith, length-drop (p .logged) log)
+
+  front : length (take (p .logged) log) ≡ p .logged
+  front = length-take-le (p .logged) log hg
+
+  goes : (start : List ℕ) (p₀ : Parked) (b₀ : List ℕ) → length start ≡ length log → Going s ws start p₀ b₀ log (p .parked) b (p .taken) (p .logged)
+      → Going s ws start p₀ b₀ (take (p .logged) log ++ ys) (r .parked) b′ (p .taken + r .taken) (p .logged + r .logged)
+  goes start p₀ b₀ e g =
+      let n : length start - p .logged ≡ length (drop (p .logged) log) = omega (arith, length-drop (p .logged) log) in
+      let k : take (p .logged + r .logged) (take (p .logged) log ++ ys) ≡ take (p .logged) log ++ take (r .logged) ys =
+      subst (λ (m : ℕ). take (m + r .logged) (take (p .logged) log ++ ys) ≡ take (p .logged) log ++ take (r .logged) ys) front
+      (take-append-add (take (p .logged) log) ys (r .logged)) in
+      record {
+        kept =
+            sym (drop-drop (r .logged) (p .logged) (take (p .logged) log ++ ys))
+            ∙ ap (drop (r .logged)) (drop-at (take (p .logged) log) ys (p .logged) front)
+            ∙ h .kept
+            ∙ ap (drop (r .logged)) (g .kept)
+            ∙ drop-drop (r .logged) (p .logged) start;
+        run =
+            g .run
+            ∙ ap (joined (p .taken) (take (p .logged) log))
+            (ap (λ (m : ℕ). runs s (m / 2) (p .parked) b (drop (p .taken) ws)) n ∙ h .run)
+            ∙ joined-joined (p .taken) (r .taken) (take (p .logged) log) (take (r .logged) ys) _
+            ∙ ap₂ (λ (l : List ℕ) (q : Outcome). joined (p .taken + r .taken) l q) (sym k)
+            (ap₂ (λ (m : ℕ) (x : List ℕ). runs s (m / 2) (r .parked) b′ x) (room-left start e) (drop-drop (r .taken) (p .taken) ws));
+      }
+
+  forward-law : Forward s ws log b p (record { turn = r .turn; parked = r .parked; taken = p .taken + r .taken; logged = p .logged + r .logged }) (take (p .logged) log ++ ys) b′
+  forward-law = record {
+    words = omega (arith, h .words, length-drop (p .taken) ws);
+    room = omega (arith, h .room, length-drop (p .logged) log);
+    more = omega arith;
+    going = goes;
+    ends = further (r .turn) (p .logged) (r .logged) _ (r .parked) b′
+        (subst (λ (q : Outcome). Ends (r .turn) 0 (r .logged) q (r .parked) b′)
+        (ap₂ (λ (m : ℕ) (x : List ℕ). runs s (m / 2) (r .parked) b′ x) (room-left log refl) (drop-drop (r .taken) (p .taken) ws)) (h .ends));
+  }
+
+-- the same, with the parts as the borrow checker has them
+pub forward-part : (s ws log b : List ℕ) (p : Progress) (r : Progress) (b′ ys : List ℕ) → p .taken ≤ length ws → p .logged ≤ length log
+    → length ys ≡ length (take (length log - p .logged) (drop (p .logged) log))
+    → Turned s (p .parked) b (take (length ws - p .taken) (drop (p .taken) ws)) (take (length log - p .logged) (drop (p .logged) log)) r b′ ys
+    → Forward s ws log b p (record { turn = r .turn; parked = r .parked; taken = p .taken + r .taken; logged = p .logged + r .logged }) (putMid (p .logged) (length log - p .logged) log ys) b′
+forward-part s ws log b p r b′ ys ht hg hl h =
+    let tail : ys ++ drop (length log - p .logged) (drop (p .logged) log) ≡ ys =
+    ap (λ (z : List ℕ). ys ++ z) (post-is (p .logged) (length log) log hg ∙ drop-length log) ∙ append-nil ys in
+    subst (λ (z : List ℕ). Forward s ws log b p (record { turn = r .turn; parked = r .parked; taken = p .taken + r .taken; logged = p .logged + r .logged }) (take (p .logged) log ++ z) b′) (sym tail)
+    (forward-law s ws log b p r b′ ys ht hg (hl ∙ ap length (part-to-end log (p .logged)))
+    (subst (λ (x : List ℕ). Turned s (p .parked) b (drop (p .taken) ws) x r b′ ys) (part-to-end log (p .logged))
+    (subst (λ (x : List ℕ). Turned s (p .parked) b x (take (length log - p .logged) (drop (p .logged) log)) r b′ ys) (part-to-end ws (p .taken)) h)))
+
+-- what a turn tells
+module _ {s ws log b : List ℕ} {p r : Progress} {log′ b′ : List ℕ} (f : Forward s ws log b p r log′ b′) where
+  told : (u : Turn) → r .turn ≡ u → Ends u (p .logged) (r .logged) (runs s ((length log - r .logged) / 2) (r .parked) b′ (drop (r .taken) ws)) (r .parked) b′
+  told u e = subst (λ (u : Turn). Ends u (p .logged) (r .logged) (runs s ((length log - r .logged) / 2) (r .parked) b′ (drop (r .taken) ws)) (r .parked) b′) e (f .ends)
+
+  pub more-again : r .turn ≡ Again → r .logged ≡ p .logged + 2
+  more-again e = told Again e
+
+  pub more-found : r .turn ≡ Found → r .logged ≡ p .logged + 2
+  more-found e = told Found e
+
+  pub no-more : (a : End) → r .turn ≡ Over a → runs s ((length log - r .logged) / 2) (r .parked) b′ (drop (r .taken) ws) ≡ stopped (answer a (r .parked)) (r .parked) b′
+  no-more a e = told (Over a) e
+
+pub going-none : (s ws start : List ℕ) (p : Parked) (b : List ℕ) → Going s ws start p b start p b 0 0
+going-none s ws start p b = record { kept = refl; run = rw sub-zero (joined-none (runs s (length start / 2) p b ws)) }
+
+-- the log's front is what was logged, and its rest is as it was
+over-take : (g : ℕ) (log start : List ℕ) → length log ≡ length start → drop g log ≡ drop g start → log ≡ over (take g log) start
+over-take zero log start e k = k
+over-take (suc g) [] [] e k = refl
+over-take (suc g) [] (y ∷ ys) e k = absurd (omega arith)
+over-take (suc g) (x ∷ xs) [] e k = absurd (omega arith)
+over-take (suc g) (x ∷ xs) (y ∷ ys) e k = ap {B = List ℕ} (λ r. x ∷ r) (over-take g xs ys (omega arith) k)
+
+-- the run is over: its whole outcome
+pub finish : (s ws start : List ℕ) (p₀ : Parked) (b₀ log : List ℕ) (p : Progress) (b : List ℕ) (n : ℕ) (a : End) (r : Ran) → p .logged ≤ length log → n ≡ length start → length log ≡ n
+    → Going s ws start p₀ b₀ log (p .parked) b (p .taken) (p .logged) → runs s ((n - p .logged) / 2) (p .parked) b (drop (p .taken) ws) ≡ stopped (answer a (p .parked)) (p .parked) b
+    → Answered p a r → Whole (runs s (length start / 2) p₀ b₀ ws) start r log b
+finish s ws start p₀ b₀ log p b n a r hg hn hl h e k =
+    let all : runs s (length start / 2) p₀ b₀ ws ≡ joined (p .taken) (take (p .logged) log) (stopped (answer a (p .parked)) (p .parked) b) =
+    h .run ∙ ap (joined (p .taken) (take (p .logged) log)) (ap (λ (m : ℕ). runs s ((m - p .logged) / 2) (p .parked) b (drop (p .taken) ws)) (sym hn) ∙ e) in
+    let long : length (take (p .logged) log) ≡ p .logged = length-take-le (p .logged) log hg in
+    rw all (record {
+      answer = k .answer;
+      parked = k .parked;
+      taken = k .taken ∙ sym (add-zero (p .taken));
+      logged = k .logged ∙ rw (append-nil) (sym long);
+      entries = rw (append-nil) (over-take (p .logged) log start (hl ∙ hn) (h .kept));
+      buffer = refl;
+    })
+
+-- what a part's step takes stays in the whole
+pub part-fits : (r t : ℕ) (ws : List ℕ) → t ≤ length ws → r ≤ length (take (length ws - t) (drop t ws)) → t + r ≤ length ws
+part-fits r t ws h k =
+    let e : length (take (length ws - t) (drop t ws)) ≡ length (drop t ws) = ap length (part-to-end ws t) in
+    omega (arith, length-drop t ws)
+
+-- a stretch of a run: from a log, a buffer and a progress to others
+pub record Carried (s ws log₀ b₀ : List ℕ) (p₀ : Progress) (log b : List ℕ) (p : Progress) : Type 0 where
+  pub words : p .taken ≤ length ws
+  pub room : p .logged ≤ length log
+  pub long : length log ≡ length log₀
+  pub wide : length b ≡ length b₀
+  pub more : p₀ .logged ≤ p .logged
+  pub going : (start : List ℕ) (q : Parked) (a : List ℕ) → length start ≡ length log₀
+      → Going s ws start q a log₀ (p₀ .parked) b₀ (p₀ .taken) (p₀ .logged) → Going s ws start q a log (p .parked) b (p .taken) (p .logged)
+
+module _ {s ws log₀ b₀ : List ℕ} {p₀ : Progress} where
+  pub carried-none : p₀ .taken ≤ length ws → p₀ .logged ≤ length log₀ → Carried s ws log₀ b₀ p₀ log₀ b₀ p₀
+  carried-none h k = record { words = h; room = k; long = refl; wide = refl; more = omega arith; going = λ start q a e g. g }
+
+  pub carried-step : {log b log′ b′ : List ℕ} {p r : Progress} → Carried s ws log₀ b₀ p₀ log b p → Forward s ws log b p r log′ b′
+      → length log′ ≡ length log → length b′ ≡ length b → Carried s ws log₀ b₀ p₀ log′ b′ r
+  carried-step c f e k = record {
+    words = f .words;
+    room = omega (arith, f .room);
+    long = e ∙ c .long;
+    wide = k ∙ c .wide;
+    more = omega (arith, f .more, c .more);
+    going = λ start q a h g. f .going start q a (h ∙ sym (c .long)) (c .going start q a h g);
+  }
+
+  pub carried-on : {log b log′ b′ : List ℕ} {p r : Progress} → Carried s ws log₀ b₀ p₀ log b p → Carried s ws log b p log′ b′ r → Carried s ws log₀ b₀ p₀ log′ b′ r
+  carried-on c d = record {
+    words = d .words;
+    room = d .room;
+    long = d .long ∙ c .long;
+    wide = d .wide ∙ c .wide;
+    more = omega (arith, c .more, d .more);
+    going = λ start q a h g. d .going start q a (h ∙ sym (c .long)) (c .going start q a h g);
+  }
+
+  -- an access makes the log that is left shorter
+  pub shorter : {log b : List ℕ} {p : Progress} → Carried s ws log₀ b₀ p₀ log b p → p₀ .logged + 2 ≤ p .logged → length log - p .logged < length log₀ - p₀ .logged
+  shorter c h = omega (arith, c .room, c .long)
+
+-- the run's whole outcome, where a stretch of it from its begin ends with a turn that says that it is over
+pub ended : {s ws log₀ b₀ : List ℕ} {p₀ : Parked} {u : Turn} {log b log′ b′ : List ℕ} {p r : Progress} {q : Ran}
+    → Carried s ws log₀ b₀ (record { turn = u; parked = p₀; taken = 0; logged = 0 }) log b p → Forward s ws log b p r log′ b′ → length log′ ≡ length log → length b′ ≡ length b
+    → (a : End) → r .turn ≡ Over a → Answered r a q → Whole (runs s (length log₀ / 2) p₀ b₀ ws) log₀ q log′ b′
+ended {s} {ws} {log₀} {b₀} {p₀} {u} {log} {b} {log′} {b′} {p} {r} {q} c f e k a h o =
+    let d = carried-step c f e k in
+    finish s ws log₀ p₀ b₀ log′ r b′ (length log) a q (d .room) (c .long) e
+    (d .going log₀ p₀ b₀ refl (going-none s ws log₀ p₀ b₀)) (no-more f a h) o
+
+module _ (s : List ℕ) (p : Parked) (b ws : List ℕ) (n : ℕ) where
+  pub outcome-wrong : wrong p (length s) (length b) ≡ true → outcome s n p b ws ≡ stopped (says 11 []) p b
+  unfolding outcome
+  outcome-wrong e = rw e
+
+  pub outcome-right : wrong p (length s) (length b) ≡ false → outcome s n p b ws ≡ runs s n p b ws
+  unfolding outcome
+  outcome-right e = rw e
+
+module _ (k : Kind) (address : ℕ) (s b ws : List ℕ) (n : ℕ) where
+  pub call-good : lengths k (length s) (length b) ≡ true → called k address s n b ws ≡ outcome s n (begun k address (length s) (length b)) b ws
+  unfolding called
+  call-good e = rw e
+
+  pub call-bad : lengths k (length s) (length b) ≡ false → called k address s n b ws ≡ stopped (says 6 []) (refused k address (length s) (length b)) b
+  unfolding called
+  call-bad e = rw e
+
+nothing : (l : List ℕ) → length l ≡ 0 → [] ≡ l
+nothing [] e = refl
+nothing (x ∷ l) e = absurd (omega arith)
+
+-- a call that has no buffer is lent an empty one
+pub unlent : {q : Outcome} {log : List ℕ} {r : Ran} {log′ b : List ℕ} → Whole q log r log′ b → length b ≡ 0 → Whole q log r log′ []
+unlent {q} {log} {r} {log′} {b} w e = subst (λ (l : List ℕ). Whole q log r log′ l) (sym (nothing b e)) w
+
+-- inside a list the default does not matter
+pub getD-default : (l : List ℕ) (i d e : ℕ) → i < length l → getD l i d ≡ getD l i e
+getD-default [] i d e h = absurd (omega arith)
+getD-default (x ∷ l) zero d e h = refl
+getD-default (x ∷ l) (suc i) d e h = getD-default l i d e (le-of-suc-le-suc h)

@@ -1,0 +1,9 @@
+pub mod After
+pub mod BufferLaw
+pub mod CutLaw
+pub mod Kinds
+pub mod NeverWait
+pub mod Refusals
+pub mod Run
+pub mod Steps
+pub mod Wants

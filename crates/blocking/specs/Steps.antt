@@ -1,0 +1,56 @@
+-- What the parts of a run promise: how one access, and a stretch of them, carries a run on.
+use Prim.Native.Nat.{ℕ, _+_, _-_, _/_, _≤_}
+use mathlib.Core.Path.{_≡_}
+use mathlib.Core.List.{List, [], _∷_, _++_}
+use lib.ListN.{length, take, drop}
+use Rattle.registers.specs.Answers.{said}
+use Rattle.blocking.specs.declared.End.{End}
+use Rattle.blocking.specs.declared.Phase.the-variants.{Ended}
+use Rattle.blocking.specs.declared.Parked.{Parked}
+use Rattle.blocking.specs.declared.Turn.{Turn}
+use Rattle.blocking.specs.declared.Turn.the-variants.{Again, Found, Over}
+use Rattle.blocking.specs.declared.Progress.{Progress}
+use Rattle.blocking.specs.declared.Ran.{Ran}
+use Rattle.blocking.specs.After.{answer}
+use Rattle.blocking.specs.Run.{Outcome, stopped, joined, runs}
+
+-- what is returned where no access follows
+pub record Answered (p : Progress) (e : End) (r : Ran) : Type 0 where
+  pub answer : said (r .answer) ≡ answer e (p .parked)
+  pub parked : r .parked ≡ p .parked
+  pub taken : r .taken ≡ p .taken
+  pub logged : r .logged ≡ p .logged
+
+-- a turn that says the call is over tells why
+abbrev pub Told : Turn → Parked → Type 0
+Told Again p = p ≡ p
+Told Found p = p ≡ p
+Told (Over e) p = p .phase ≡ Ended e
+
+-- an access was made, or the run stops here
+abbrev pub Ends : Turn → ℕ → ℕ → Outcome → Parked → List ℕ → Type 0
+Ends Again g g′ q p b = g′ ≡ g + 2
+Ends Found g g′ q p b = g′ ≡ g + 2
+Ends (Over e) g g′ q p b = q ≡ stopped (answer e p) p b
+
+-- a run over `ws` with the log `start` has taken words and logged accesses, and goes on from a call and a buffer
+pub record Going (s ws start : List ℕ) (p₀ : Parked) (b₀ : List ℕ) (log : List ℕ) (p : Parked) (b : List ℕ) (taken logged : ℕ) : Type 0 where
+  pub kept : drop logged log ≡ drop logged start
+  pub run : runs s (length start / 2) p₀ b₀ ws ≡ joined taken (take logged log) (runs s ((length start - logged) / 2) p b (drop taken ws))
+
+-- one access over the words and the log that are left
+pub record Turned (s : List ℕ) (p : Parked) (b ws log : List ℕ) (r : Progress) (b′ log′ : List ℕ) : Type 0 where
+  pub words : r .taken ≤ length ws
+  pub room : r .logged ≤ length log
+  pub kept : drop (r .logged) log′ ≡ drop (r .logged) log
+  pub run : runs s (length log / 2) p b ws ≡ joined (r .taken) (take (r .logged) log′) (runs s ((length log - r .logged) / 2) (r .parked) b′ (drop (r .taken) ws))
+  pub ends : Ends (r .turn) 0 (r .logged) (runs s ((length log - r .logged) / 2) (r .parked) b′ (drop (r .taken) ws)) (r .parked) b′
+
+-- one access of a run
+pub record Forward (s ws log b : List ℕ) (p r : Progress) (log′ b′ : List ℕ) : Type 0 where
+  pub words : r .taken ≤ length ws
+  pub room : r .logged ≤ length log
+  pub more : p .logged ≤ r .logged
+  pub going : (start : List ℕ) (p₀ : Parked) (b₀ : List ℕ) → length start ≡ length log
+      → Going s ws start p₀ b₀ log (p .parked) b (p .taken) (p .logged) → Going s ws start p₀ b₀ log′ (r .parked) b′ (r .taken) (r .logged)
+  pub ends : Ends (r .turn) (p .logged) (r .logged) (runs s ((length log - r .logged) / 2) (r .parked) b′ (drop (r .taken) ws)) (r .parked) b′

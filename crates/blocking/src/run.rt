@@ -1,0 +1,255 @@
+// Running a call: one access after the other, until it is over or parks.
+ghost use mathlib.Core.Path.{_≡_};
+ghost use Prim.Native.Nat.{_/_, _≤_};
+ghost use lib.ListN.{length, getD};
+ghost use Rattle.blocking.specs.Run.{kept, runs, outcome, called, resumed, room, Whole};
+ghost use Rattle.blocking.specs.Steps.{Told, Answered, Turned, Forward};
+use crate::End;
+use crate::Kind;
+use crate::Next;
+use crate::Parked;
+use crate::Phase;
+use crate::Progress;
+use crate::Ran;
+use crate::Turn;
+use registers::answer::Answer;
+use registers::data::Rxdr;
+
+impl Parked {
+    fn turn(self) -> Turn
+        ensures { λ r. ⌜ Told r self ⌝ }
+    {
+        let phase = self.phase;
+        if let Phase::Ended(end) = phase {
+            return Turn::Over(end);
+        }
+        if let Phase::Transfer = phase {
+            return Turn::Found;
+        }
+        Turn::Again
+    }
+}
+
+// The byte to send, 0x21 after the last.
+fn byte_at(bytes: &[u8], place: usize) -> u8
+    ensures { λ r. ⌜ r ≡ getD (now (bytes .entry)) place 0x21 ⌝ }
+{
+    if place < bytes.len() {
+        bytes[place]
+    } else {
+        0x21
+    }
+}
+
+// A byte that came in goes to its place.
+fn keep_byte(keep: bool, place: usize, word: u32, receive: &mut [u8])
+    ensures { λ r. ⌜ now (receive .exit) ≡ kept keep place word (now (receive .entry)) ⌝ }
+{
+    if keep {
+        if place < receive.len() {
+            receive[place] = Rxdr::received(word);
+            return;
+        }
+        return;
+    }
+}
+
+// No access is made: the call is over, or parks.
+fn over(call: Parked, end: End) -> Progress
+    ensures { λ r. ⌜ r ≡ record { turn = Turn.Over end; parked = call; taken = 0; logged = 0 } ⌝ }
+{
+    Progress {
+        turn: Turn::Over(end),
+        parked: call,
+        taken: 0,
+        logged: 0,
+    }
+}
+
+// One access, over the words and the log that are left.
+fn advance(
+    call: Parked,
+    send: &[u8],
+    receive: &mut [u8],
+    words: &[u32],
+    log: &mut [u32],
+) -> Progress
+    ensures { λ r. ⌜ Turned (now (send .entry)) call (now (receive .entry)) (now (words .entry)) (now (log .entry)) r (now (receive .exit)) (now (log .exit)) ⌝ }
+{
+    let count = call.count;
+    let byte = byte_at(send, count);
+    let next = call.wants(byte);
+    match next {
+        Next::Over(end) => over(call, end),
+        Next::Read(number, keep) => {
+            if words.len() == 0 {
+                return over(call, End::OutOfWords);
+            }
+            if log.len() < 2 {
+                return over(call, End::LogFull);
+            }
+            let word = words[0];
+            log[0] = number;
+            log[1] = word;
+            keep_byte(keep, count, word, receive);
+            let after = call.after(word);
+            Progress {
+                turn: after.turn(),
+                parked: after,
+                taken: 1,
+                logged: 2,
+            }
+        }
+        Next::Write(number, word) => {
+            if log.len() < 2 {
+                return over(call, End::LogFull);
+            }
+            log[0] = number;
+            log[1] = word;
+            let after = call.after(0);
+            Progress {
+                turn: after.turn(),
+                parked: after,
+                taken: 0,
+                logged: 2,
+            }
+        }
+    }
+}
+
+// One access of a run, over the words from the first one not taken and the log from its first free place.
+fn forward(p: Progress, send: &[u8], receive: &mut [u8], words: &[u32], log: &mut [u32]) -> Progress
+    requires { ⌜ (p .taken ≤ length (now words)) × (p .logged ≤ length (now log)) ⌝ }
+    ensures { λ r. ⌜ Forward (now (send .entry)) (now (words .entry)) (now (log .entry)) (now (receive .entry)) p r (now (log .exit)) (now (receive .exit)) ⌝ }
+{
+    let taken = p.taken;
+    let logged = p.logged;
+    let call = p.parked;
+    let step = advance(call, send, receive, &words[taken..], &mut log[logged..]);
+    let turn = step.turn;
+    let parked = step.parked;
+    Progress {
+        turn,
+        parked,
+        taken: taken + step.taken,
+        logged: logged + step.logged,
+    }
+}
+
+impl Progress {
+    fn answered(self, end: End) -> Ran
+        ensures { λ r. ⌜ Answered self end r ⌝ }
+    {
+        let parked = self.parked;
+        Ran {
+            answer: parked.answer(end),
+            parked,
+            taken: self.taken,
+            logged: self.logged,
+        }
+    }
+}
+
+// A call that is not wrong, over the words: until it is over, or the words or the log end.
+fn transfer(call: Parked, send: &[u8], receive: &mut [u8], words: &[u32], log: &mut [u32]) -> Ran
+    ensures { λ r. ⌜ Whole (runs (now (send .entry)) (room (now (log .entry))) call (now (receive .entry)) (now (words .entry))) (now (log .entry)) r (now (log .exit)) (now (receive .exit)) ⌝ }
+{
+    let mut p = Progress {
+        turn: Turn::Again,
+        parked: call,
+        taken: 0,
+        logged: 0,
+    };
+    'transfer: loop {
+        // The wait. STOPF, ADDR, BERR and ARLO end the whole call, and so does a missing word or room.
+        loop {
+            p = forward(p, send, receive, words, log);
+            let turn = p.turn;
+            match turn {
+                Turn::Again => {}
+                Turn::Found => break,
+                Turn::Over(end) => break 'transfer p.answered(end),
+            }
+        }
+        // The byte goes out or comes in.
+        p = forward(p, send, receive, words, log);
+        let turn = p.turn;
+        match turn {
+            Turn::Over(end) => break 'transfer p.answered(end),
+            Turn::Again => {}
+            Turn::Found => {}
+        }
+    }
+}
+
+fn refused(call: Parked, answer: Answer) -> Ran
+    ensures { λ r. ⌜ r ≡ record { answer = answer; parked = call; taken = 0; logged = 0 } ⌝ }
+{
+    Ran {
+        answer,
+        parked: call,
+        taken: 0,
+        logged: 0,
+    }
+}
+
+// Runs a parked call over the words, until it is over or parks. 11 is answered before any access.
+pub fn run(call: Parked, send: &[u8], receive: &mut [u8], words: &[u32], log: &mut [u32]) -> Ran
+    ensures { λ r. ⌜ Whole (outcome (now (send .entry)) (room (now (log .entry))) call (now (receive .entry)) (now (words .entry))) (now (log .entry)) r (now (log .exit)) (now (receive .exit)) ⌝ }
+{
+    if call.wrong(send.len(), receive.len()) {
+        return refused(call, Answer::WrongCall);
+    }
+    transfer(call, send, receive, words, log)
+}
+
+// Resumes a parked call with the rest of the words, from the first one not taken.
+pub fn resume(
+    call: Parked,
+    taken: usize,
+    send: &[u8],
+    receive: &mut [u8],
+    words: &[u32],
+    log: &mut [u32],
+) -> Ran
+    ensures { λ r. ⌜ Whole (resumed (now (send .entry)) (room (now (log .entry))) call taken (now (receive .entry)) (now (words .entry))) (now (log .entry)) r (now (log .exit)) (now (receive .exit)) ⌝ }
+{
+    if taken < words.len() {
+        return run(call, send, receive, &words[taken..], log);
+    }
+    let none = [0u32; 0];
+    run(call, send, receive, &none, log)
+}
+
+// Begins a call and runs it. A slice of 0 or over 255 bytes is answered before any access, and ends the call.
+pub fn begin(
+    kind: Kind,
+    address: u8,
+    send: &[u8],
+    receive: &mut [u8],
+    words: &[u32],
+    log: &mut [u32],
+) -> Ran
+    ensures { λ r. ⌜ Whole (called kind address (now (send .entry)) (room (now (log .entry))) (now (receive .entry)) (now (words .entry))) (now (log .entry)) r (now (log .exit)) (now (receive .exit)) ⌝ }
+{
+    if kind.lengths(send.len(), receive.len()) {
+        let begun = Parked {
+            kind,
+            address,
+            send: send.len(),
+            receive: receive.len(),
+            phase: kind.opening(),
+            count: 0,
+        };
+        return run(begun, send, receive, words, log);
+    }
+    let ended = Parked {
+        kind,
+        address,
+        send: send.len(),
+        receive: receive.len(),
+        phase: Phase::Ended(End::BadLength),
+        count: 0,
+    };
+    refused(ended, Answer::BadLength)
+}

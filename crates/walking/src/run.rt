@@ -1,0 +1,134 @@
+// A walk: `master_write_read` to 0x50 with 01 40 and read length 2, and then checks while words are left.
+use crate::input::Line;
+use crate::input::next_line;
+use crate::output::print_accesses;
+use crate::output::print_answer;
+use nonblocking::link::Called;
+use nonblocking::link::Link;
+use registers::answer::Answer;
+
+// The words read ahead: a call takes at most three.
+pub struct Ahead {
+    pub words: [u32; 3],
+    pub count: usize,
+    pub open: bool,
+}
+
+// One word more, if there is room and the input has not ended.
+fn more(ahead: Ahead, buffer: &mut [u8; 4096], at: &mut usize, end: &mut usize) -> Ahead {
+    let count = ahead.count;
+    if 3 <= count {
+        return ahead;
+    }
+    if ahead.open {
+        let line = next_line(buffer, at, end);
+        match line {
+            Line::Word(word) => {
+                let mut next = ahead;
+                next.words[count] = word;
+                next.count = count + 1;
+                return next;
+            }
+            Line::Other => {
+                let mut next = ahead;
+                next.open = false;
+                return next;
+            }
+        }
+    }
+    ahead
+}
+
+// Reads ahead until there are three words or the input has ended.
+fn fill(ahead: Ahead, buffer: &mut [u8; 4096], at: &mut usize, end: &mut usize) -> Ahead {
+    let one = more(ahead, buffer, at, end);
+    let two = more(one, buffer, at, end);
+    more(two, buffer, at, end)
+}
+
+// What is left after a call took its words.
+fn without(ahead: Ahead, taken: usize) -> Ahead {
+    let words = ahead.words;
+    let count = ahead.count;
+    if count < taken {
+        return ahead;
+    }
+    let left = match taken {
+        0 => words,
+        1 => [words[1], words[2], 0],
+        2 => [words[2], 0, 0],
+        _ => [0, 0, 0],
+    };
+    Ahead {
+        words: left,
+        count: count - taken,
+        open: ahead.open,
+    }
+}
+
+// A check over the words read ahead, printed.
+fn step(link: Link, words: [u32; 3], count: usize) -> Called {
+    let mut log = [0u32; 10];
+    if count < 3 {
+        let called = link.check_isr_flags(&words[..count], &mut log);
+        return printed(called, &log);
+    }
+    let called = link.check_isr_flags(&words, &mut log);
+    printed(called, &log)
+}
+
+fn start(link: Link, words: [u32; 3], count: usize) -> Called {
+    let mut log = [0u32; 10];
+    let bytes = [0x01u8, 0x40];
+    if count < 3 {
+        let called = link.master_write_read(0x50, &bytes, 2, &words[..count], &mut log);
+        return printed(called, &log);
+    }
+    let called = link.master_write_read(0x50, &bytes, 2, &words, &mut log);
+    printed(called, &log)
+}
+
+fn printed(called: Called, log: &[u32; 10]) -> Called {
+    let report = called.report;
+    print_accesses(log, report.logged);
+    print_answer(called);
+    called
+}
+
+fn out_of_words(called: Called) -> bool {
+    let report = called.report;
+    let answer = report.answer;
+    if let Answer::OutOfWords = answer {
+        true
+    } else {
+        false
+    }
+}
+
+// One walk, from the input's next byte on. What is read past the walk's last line stays in the buffer.
+pub fn run(buffer: &mut [u8; 4096], at: &mut usize, end: &mut usize) {
+    let none = Ahead {
+        words: [0u32; 3],
+        count: 0,
+        open: true,
+    };
+    let mut ahead = fill(none, buffer, at, end);
+    let first = ahead.words;
+    let mut called = start(Link::new(), first, ahead.count);
+    // No input is as long as this.
+    let mut turns: u64 = 18_446_744_073_709_551_615;
+    while 0 < turns {
+        if out_of_words(called) {
+            return;
+        }
+        let taken = called.report.taken;
+        ahead = fill(without(ahead, taken), buffer, at, end);
+        if ahead.count == 0 {
+            return;
+        }
+        let link = called.link;
+        let words = ahead.words;
+        called = step(link, words, ahead.count);
+        turns -= 1;
+    }
+}
