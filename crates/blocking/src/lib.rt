@@ -3,6 +3,7 @@
 use registers::answer::Answer;
 
 pub mod busy_wait;
+pub mod construct;
 pub mod interrupts;
 pub mod kinds;
 pub mod laws;

@@ -1,0 +1,18 @@
+// Construction.
+ghost use lib.ListN.{length};
+ghost use mathlib.Core.Bool.{true};
+ghost use Rattle.registers.specs.Access.{Reported};
+ghost use Rattle.registers.specs.SetUp.{setUp};
+ghost use Rattle.registers.specs.Words.{ownSeven};
+use registers::access::Report;
+use registers::config::Config;
+use registers::oar::Oar1;
+use registers::setup::set_up;
+
+// Sets the unit up for a clock of so many hertz. OAR1 holds the low seven bits of the own address, in ten-bit mode too.
+pub fn i2c1(config: Config, clock: u32, words: &[u32], log: &mut [u32]) -> Report
+    ensures { λ r. ⌜ Reported (setUp config clock (ownSeven (config .«slave_address_1») (config .«address_11bits») true) (now (words .entry)) (length (now (log .entry)))) (now (log .entry)) r (now (log .exit)) ⌝ }
+{
+    let oar1 = Oar1::own_seven(config.slave_address_1, config.address_11bits, true);
+    set_up(config, clock, oar1, words, log)
+}
