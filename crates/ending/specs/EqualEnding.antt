@@ -44,7 +44,7 @@ hideRole other e b = e
 abbrev pub hide : Event → Book → Event
 hide e b = hideRole (roleOf (e .call)) e b
 
--- the link after a list of steps, and what is seen of them
+-- the link after a list of steps (a 'history' is such a list, from a link as constructed), and what is seen of them
 unfoldable pub ran : Link → List Step → Link
 ran l [] = l
 ran l (s ∷ ss) = ran (outcome s l .link) ss
