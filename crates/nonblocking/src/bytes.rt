@@ -4,7 +4,7 @@ ghost use Prim.Native.Nat.{_≤_};
 ghost use lib.ListN.{length, replicate};
 ghost use Rattle.registers.specs.Access.{over};
 
-// By way of a second array: the compiler makes one block move of the two loops.
+// By way of a second array: the compiler can then make one block move of the two loops.
 pub(crate) fn copy_in(data: &mut [u8; 255], bytes: &[u8])
     requires { ⌜ length (now bytes) ≤ 255 ⌝ }
     ensures { λ r. ⌜ now («data» .exit) ≡ over (now (bytes .entry)) (now («data» .entry)) ⌝ }
