@@ -9,23 +9,23 @@ use native.Mathlib.Omega.{arith}
 use lib.Dec.{eqb}
 use lib.ListN.{length, getD, set}
 use lib.Seq.{sets}
-use Rattle.registers.specs.Answers.{Said, says}
+use Rattle.answers.specs.Answers.{Said, says}
 use Rattle.registers.specs.Words.{received}
-use Rattle.blocking.specs.declared.Kind.{Kind}
-use Rattle.blocking.specs.declared.Kind.the-variants.{Write, Read, WriteRead, ReadBack, SlaveWrite, SlaveRead, SlaveWaitAddressed}
-use Rattle.blocking.specs.declared.Opening.{Opening}
-use Rattle.blocking.specs.declared.Opening.the-variants.{Start, Drain, Modify, Setup, Flush, Release, Probe, Drop}
-use Rattle.blocking.specs.declared.Phase.{Phase}
-use Rattle.blocking.specs.declared.Phase.the-variants.{Open, Wait, Transfer, Restart, Stretched, Refuse, ClearBerr, ClearArlo, ClearNackf, ClearStopf, FlushTxis, FlushDummy, FlushTxe, FlushEmpty, Listen, Code, Ended}
-use Rattle.blocking.specs.declared.End.{End}
-use Rattle.blocking.specs.declared.End.the-variants.{OutOfWords, LogFull, BadLength, Berr, Arlo, Addr, Stopf, Addressed}
-use Rattle.blocking.specs.declared.Next.{Next}
-use Rattle.blocking.specs.declared.Next.the-variants.{Read as ReadA, Write as WriteA, Over}
-use Rattle.blocking.specs.declared.Parked.{Parked}
-use Rattle.blocking.specs.Kinds.{incoming, restarts}
-use Rattle.blocking.specs.Wants.{more, wantsOpening, wantsByte, wantsAt, wants}
-use Rattle.blocking.specs.After.{whole, addrAnswer, stopAnswer, answer, role, turnsAs, movesAs, turns, moves, after}
-use Rattle.blocking.specs.Refusals.{wrong}
+use Rattle.parked.specs.declared.Kind.{Kind}
+use Rattle.parked.specs.declared.Kind.the-variants.{Write, Read, WriteRead, ReadBack, SlaveWrite, SlaveRead, SlaveWaitAddressed}
+use Rattle.parked.specs.declared.Opening.{Opening}
+use Rattle.parked.specs.declared.Opening.the-variants.{Start, Drain, Modify, Setup, Flush, Release, Probe, Drop}
+use Rattle.parked.specs.declared.Phase.{Phase}
+use Rattle.parked.specs.declared.Phase.the-variants.{Open, Wait, Transfer, Restart, Stretched, Refuse, ClearBerr, ClearArlo, ClearNackf, ClearStopf, FlushTxis, FlushDummy, FlushTxe, FlushEmpty, Listen, Code, Ended}
+use Rattle.parked.specs.declared.End.{End}
+use Rattle.parked.specs.declared.End.the-variants.{OutOfWords, LogFull, BadLength, Berr, Arlo, Addr, Stopf, Addressed}
+use Rattle.parked.specs.declared.Next.{Next}
+use Rattle.parked.specs.declared.Next.the-variants.{Read as ReadA, Write as WriteA, Over}
+use Rattle.parked.specs.declared.Parked.{Parked}
+use Rattle.parked.specs.Kinds.{incoming, restarts}
+use Rattle.parked.specs.Wants.{more, wantsOpening, wantsByte, wantsAt, wants}
+use Rattle.parked.specs.After.{whole, addrAnswer, stopAnswer, answer, role, turnsAs, movesAs, turns, moves, after}
+use Rattle.parked.specs.Refusals.{wrong}
 use Rattle.blocking.specs.Run.{Outcome, stopped, kept, step, full, next, runs, outcome}
 use Rattle.blocking.specs.BufferLaw.{hearing, heardIn, heard, place, BufferLaw}
 use Rattle.blocking.proofs.Stretches.{outcome-wrong, outcome-right}

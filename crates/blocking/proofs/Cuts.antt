@@ -7,20 +7,20 @@ use native.Mathlib.Nat.{add-zero, zero-add}
 use native.Mathlib.Numerals.{one-add}
 use native.Mathlib.Omega.{arith}
 use lib.ListN.{length, drop}
-use Rattle.registers.specs.Answers.{Said, says}
-use Rattle.blocking.specs.declared.End.{End}
-use Rattle.blocking.specs.declared.End.the-variants.{BadLength}
-use Rattle.blocking.specs.declared.Opening.{Opening}
-use Rattle.blocking.specs.declared.Phase.{Phase}
-use Rattle.blocking.specs.declared.Phase.the-variants.{Open, Wait, Transfer, Restart, Stretched, Refuse, ClearBerr, ClearArlo, ClearNackf, ClearStopf, FlushTxis, FlushDummy, FlushTxe, FlushEmpty, Listen, Code, Ended}
-use Rattle.blocking.specs.declared.Next.{Next}
-use Rattle.blocking.specs.declared.Next.the-variants.{Read, Write, Over}
-use Rattle.blocking.specs.declared.Parked.{Parked}
-use Rattle.blocking.specs.After.{answer, after, role}
-use Rattle.blocking.specs.Refusals.{isNothing, ended, wrong}
+use Rattle.answers.specs.Answers.{Said, says}
+use Rattle.parked.specs.declared.End.{End}
+use Rattle.parked.specs.declared.End.the-variants.{BadLength}
+use Rattle.parked.specs.declared.Opening.{Opening}
+use Rattle.parked.specs.declared.Phase.{Phase}
+use Rattle.parked.specs.declared.Phase.the-variants.{Open, Wait, Transfer, Restart, Stretched, Refuse, ClearBerr, ClearArlo, ClearNackf, ClearStopf, FlushTxis, FlushDummy, FlushTxe, FlushEmpty, Listen, Code, Ended}
+use Rattle.parked.specs.declared.Next.{Next}
+use Rattle.parked.specs.declared.Next.the-variants.{Read, Write, Over}
+use Rattle.parked.specs.declared.Parked.{Parked}
+use Rattle.parked.specs.After.{answer, after, role}
+use Rattle.parked.specs.Refusals.{isNothing, ended, wrong}
 use Rattle.blocking.specs.Run.{Outcome, stopped, joined, kept, step, full, next, runs, outcome}
 use Rattle.blocking.specs.CutLaw.{Cut, accesses, unlessEnded, cutRuns, allWords, Spare, CutLaw}
-use Rattle.blocking.proofs.Phases.{wants-at}
+use Rattle.parked.proofs.Phases.{wants-at}
 use Rattle.blocking.proofs.Stretches.{joined-none, run-over, run-out, full-read, full-write, outcome-wrong, outcome-right}
 use Rattle.blocking.proofs.Joins.{cut}
 use Rattle.blocking.proofs.Sound.{Sound, Kept, kept-run, right, sound-of}

@@ -3,20 +3,20 @@ use Prim.Native.Nat.{ℕ}
 use mathlib.Core.Path.{_≡_, refl}
 use mathlib.Core.List.{List, [], _∷_}
 use lib.ListN.{replicate}
-use Rattle.registers.specs.Field.{get, put, isSet}
+use Rattle.fields.specs.Field.{get, put, isSet}
 use Rattle.registers.specs.Words.{started, sized, refused}
 use Rattle.registers.specs.Flags.{foundIn, directionOf}
-use Rattle.registers.specs.Answers.{Said, says}
-use Rattle.blocking.specs.declared.Kind.{Kind}
-use Rattle.blocking.specs.declared.Kind.the-variants.{Write, Read, WriteRead, SlaveWrite, SlaveRead, SlaveWaitAddressed}
-use Rattle.blocking.specs.declared.Opening.the-variants.{Setup}
-use Rattle.blocking.specs.declared.Phase.{Phase}
-use Rattle.blocking.specs.declared.Phase.the-variants.{Open, Wait, Ended}
-use Rattle.blocking.specs.declared.End.the-variants.{Stopf}
-use Rattle.blocking.specs.declared.Parked.{Parked}
-use Rattle.blocking.specs.Wants.{span, more, wants}
-use Rattle.blocking.specs.After.{tcWait, wanted, compared, whole, addrAnswer, stopAnswer, found, turns, moves, after}
-use Rattle.blocking.specs.Refusals.{good, fits, lengths, wrong}
+use Rattle.answers.specs.Answers.{Said, says}
+use Rattle.parked.specs.declared.Kind.{Kind}
+use Rattle.parked.specs.declared.Kind.the-variants.{Write, Read, WriteRead, SlaveWrite, SlaveRead, SlaveWaitAddressed}
+use Rattle.parked.specs.declared.Opening.the-variants.{Setup}
+use Rattle.parked.specs.declared.Phase.{Phase}
+use Rattle.parked.specs.declared.Phase.the-variants.{Open, Wait, Ended}
+use Rattle.parked.specs.declared.End.the-variants.{Stopf}
+use Rattle.parked.specs.declared.Parked.{Parked}
+use Rattle.parked.specs.Wants.{span, more, wants}
+use Rattle.parked.specs.After.{tcWait, wanted, compared, whole, addrAnswer, stopAnswer, found, turns, moves, after}
+use Rattle.parked.specs.Refusals.{good, fits, lengths, wrong}
 use Rattle.blocking.specs.Run.{Outcome, runs, outcome, called, resumed}
 
 abbrev shown : Outcome → Said × List ℕ × List ℕ × ℕ

@@ -7,11 +7,11 @@ use native.Mathlib.Nat.{zero-add, suc-add}
 use native.Mathlib.Numerals.{one-add}
 use native.Mathlib.Omega.{arith}
 use lib.ListN.{length, getD, drop}
-use Rattle.registers.specs.Answers.{Said, says}
-use Rattle.blocking.specs.declared.Next.{Next}
-use Rattle.blocking.specs.declared.Next.the-variants.{Read, Write, Over}
-use Rattle.blocking.specs.declared.Parked.{Parked}
-use Rattle.blocking.specs.After.{answer, after}
+use Rattle.answers.specs.Answers.{Said, says}
+use Rattle.parked.specs.declared.Next.{Next}
+use Rattle.parked.specs.declared.Next.the-variants.{Read, Write, Over}
+use Rattle.parked.specs.declared.Parked.{Parked}
+use Rattle.parked.specs.After.{answer, after}
 use Rattle.blocking.specs.Run.{Outcome, stopped, joined, kept, step, full, next, runs}
 use Rattle.blocking.specs.CutLaw.{accesses}
 use Rattle.blocking.proofs.Stretches.{joined-none, joined-joined, run-read, run-write}

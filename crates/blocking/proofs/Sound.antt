@@ -8,19 +8,19 @@ use borrow.Author.Tests.{eq-eqb, le-ltb, eqb-true, ltb-false}
 use lib.Dec.{eqb, ltb}
 use lib.ListN.{length, set, length-set}
 use Rattle.registers.specs.Words.{received}
-use Rattle.blocking.specs.declared.Kind.{Kind}
-use Rattle.blocking.specs.declared.Kind.the-variants.{Write, Read, WriteRead, ReadBack, SlaveWrite, SlaveRead, SlaveWaitAddressed}
-use Rattle.blocking.specs.declared.Role.{Role}
-use Rattle.blocking.specs.declared.Role.the-variants.{Byte, Second, Other, Nothing}
-use Rattle.blocking.specs.declared.Next.{Next}
-use Rattle.blocking.specs.declared.Next.the-variants.{Read as ReadA, Write as WriteA, Over}
-use Rattle.blocking.specs.declared.Parked.{Parked}
-use Rattle.blocking.specs.Kinds.{incoming, restarts}
-use Rattle.blocking.specs.Wants.{span}
-use Rattle.blocking.specs.After.{phaseAt, role, turnsAs, turns, moves, after}
-use Rattle.blocking.specs.Refusals.{lengths, ended, wrong}
+use Rattle.parked.specs.declared.Kind.{Kind}
+use Rattle.parked.specs.declared.Kind.the-variants.{Write, Read, WriteRead, ReadBack, SlaveWrite, SlaveRead, SlaveWaitAddressed}
+use Rattle.parked.specs.declared.Role.{Role}
+use Rattle.parked.specs.declared.Role.the-variants.{Byte, Second, Other, Nothing}
+use Rattle.parked.specs.declared.Next.{Next}
+use Rattle.parked.specs.declared.Next.the-variants.{Read as ReadA, Write as WriteA, Over}
+use Rattle.parked.specs.declared.Parked.{Parked}
+use Rattle.parked.specs.Kinds.{incoming, restarts}
+use Rattle.parked.specs.Wants.{span}
+use Rattle.parked.specs.After.{phaseAt, role, turnsAs, turns, moves, after}
+use Rattle.parked.specs.Refusals.{lengths, ended, wrong}
 use Rattle.blocking.specs.Run.{Outcome, kept, step, full, next, runs}
-use Rattle.blocking.proofs.Counts.{moves-below}
+use Rattle.parked.proofs.Counts.{moves-below}
 
 -- what is tested at the begin of a run
 pub record Sound (n m : ℕ) (p : Parked) : Type 0 where

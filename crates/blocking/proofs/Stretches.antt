@@ -9,23 +9,23 @@ use lib.ListN.{length, getD, take, drop, set, length-drop, take-append-drop}
 use lib.Seq.{length-take-le, take-append-add, drop-drop, drop-at, drop-length}
 use borrow.Rule.Slice.PartAt.{part-to-end}
 use borrow.Rule.Slice.PartMut.{putMid, post-is}
-use Rattle.registers.specs.Answers.{says}
-use Rattle.registers.specs.Access.{over}
-use Rattle.blocking.specs.declared.End.{End}
-use Rattle.blocking.specs.declared.Phase.the-variants.{Ended}
-use Rattle.blocking.specs.declared.Next.{Next}
-use Rattle.blocking.specs.declared.Next.the-variants.{Read, Write, Over as OverA}
-use Rattle.blocking.specs.declared.Parked.{Parked}
-use Rattle.blocking.specs.declared.Kind.{Kind}
+use Rattle.answers.specs.Answers.{says}
+use Rattle.access.specs.Access.{over}
+use Rattle.parked.specs.declared.End.{End}
+use Rattle.parked.specs.declared.Phase.the-variants.{Ended}
+use Rattle.parked.specs.declared.Next.{Next}
+use Rattle.parked.specs.declared.Next.the-variants.{Read, Write, Over as OverA}
+use Rattle.parked.specs.declared.Parked.{Parked}
+use Rattle.parked.specs.declared.Kind.{Kind}
 use Rattle.blocking.specs.declared.Ran.{Ran}
 use Rattle.blocking.specs.declared.Turn.{Turn}
 use Rattle.blocking.specs.declared.Turn.the-variants.{Again, Found, Over}
 use Rattle.blocking.specs.declared.Progress.{Progress}
-use Rattle.blocking.specs.After.{answer, after}
-use Rattle.blocking.specs.Refusals.{lengths, begun, refused, wrong}
+use Rattle.parked.specs.After.{answer, after}
+use Rattle.parked.specs.Refusals.{lengths, begun, refused, wrong}
 use Rattle.blocking.specs.Run.{Outcome, stopped, joined, kept, next, runs, outcome, called, Whole}
 use Rattle.blocking.specs.Steps.{Answered, Told, Ends, Going, Turned, Forward}
-use Rattle.blocking.proofs.Phases.{wants-at}
+use Rattle.parked.proofs.Phases.{wants-at}
 
 pub joined-none : (q : Outcome) → q ≡ joined 0 [] q
 joined-none q = rw zero-add

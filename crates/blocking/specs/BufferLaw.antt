@@ -6,14 +6,14 @@ use mathlib.Core.Bool.{Bool, cond}
 use mathlib.Core.List.{List, [], _∷_}
 use lib.ListN.{length}
 use lib.Seq.{sets}
-use Rattle.registers.specs.Answers.{says}
+use Rattle.answers.specs.Answers.{says}
 use Rattle.registers.specs.Words.{received}
-use Rattle.blocking.specs.declared.Next.{Next}
-use Rattle.blocking.specs.declared.Next.the-variants.{Read, Write, Over}
-use Rattle.blocking.specs.declared.Parked.{Parked}
-use Rattle.blocking.specs.Kinds.{incoming}
-use Rattle.blocking.specs.After.{after}
-use Rattle.blocking.specs.Refusals.{wrong}
+use Rattle.parked.specs.declared.Next.{Next}
+use Rattle.parked.specs.declared.Next.the-variants.{Read, Write, Over}
+use Rattle.parked.specs.declared.Parked.{Parked}
+use Rattle.parked.specs.Kinds.{incoming}
+use Rattle.parked.specs.After.{after}
+use Rattle.parked.specs.Refusals.{wrong}
 use Rattle.blocking.specs.Run.{next, outcome}
 
 -- the bytes that come in, in order: the low 8 bits of each RXDR read that is kept

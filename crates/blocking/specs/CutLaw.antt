@@ -6,9 +6,9 @@ use mathlib.Core.Path.{_≡_}
 use mathlib.Core.Bool.{Bool, true, false}
 use mathlib.Core.List.{List, [], _∷_, _++_}
 use lib.ListN.{drop}
-use Rattle.registers.specs.Answers.{says}
-use Rattle.blocking.specs.declared.Parked.{Parked}
-use Rattle.blocking.specs.Refusals.{ended}
+use Rattle.answers.specs.Answers.{says}
+use Rattle.parked.specs.declared.Parked.{Parked}
+use Rattle.parked.specs.Refusals.{ended}
 use Rattle.blocking.specs.Run.{Outcome, stopped, joined, outcome}
 
 -- a cut: the words that newly arrived, and for how many accesses the log of that run has room

@@ -1,9 +1,5 @@
-pub mod After
 pub mod BufferLaw
 pub mod CutLaw
-pub mod Kinds
 pub mod NeverWait
-pub mod Refusals
 pub mod Run
 pub mod Steps
-pub mod Wants

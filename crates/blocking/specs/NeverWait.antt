@@ -3,8 +3,8 @@ use Prim.Native.Nat.{ℕ}
 use mathlib.Core.Bool.{Bool, true, false, cond}
 use mathlib.Core.List.{List, [], _∷_}
 use lib.ListN.{length, getD}
-use Rattle.registers.specs.Answers.{Said, says, directionNumber}
-use Rattle.registers.specs.Access.{Access, read, write, Settled, settled}
+use Rattle.answers.specs.Answers.{Said, says, directionNumber}
+use Rattle.access.specs.Access.{Access, read, write, Settled, settled}
 use Rattle.registers.specs.Layout.{CR1, ISR, ICR, ADDR, _has_}
 use Rattle.registers.specs.Words.{byteControl, addressInterrupt, receiveInterrupt, cleared}
 use Rattle.registers.specs.Flags.{addressCode, directionOf}

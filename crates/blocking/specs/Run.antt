@@ -4,17 +4,17 @@ use mathlib.Core.Path.{_≡_}
 use mathlib.Core.Bool.{Bool, true, false, cond}
 use mathlib.Core.List.{List, [], _∷_, _++_}
 use lib.ListN.{length, getD, drop, set}
-use Rattle.registers.specs.Answers.{Said, says, said}
-use Rattle.registers.specs.Access.{over}
+use Rattle.answers.specs.Answers.{Said, says, said}
+use Rattle.access.specs.Access.{over}
 use Rattle.registers.specs.Words.{received}
-use Rattle.blocking.specs.declared.Kind.{Kind}
-use Rattle.blocking.specs.declared.Next.{Next}
-use Rattle.blocking.specs.declared.Next.the-variants.{Read, Write, Over}
-use Rattle.blocking.specs.declared.Parked.{Parked}
+use Rattle.parked.specs.declared.Kind.{Kind}
+use Rattle.parked.specs.declared.Next.{Next}
+use Rattle.parked.specs.declared.Next.the-variants.{Read, Write, Over}
+use Rattle.parked.specs.declared.Parked.{Parked}
 use Rattle.blocking.specs.declared.Ran.{Ran}
-use Rattle.blocking.specs.Wants.{wants}
-use Rattle.blocking.specs.After.{answer, after}
-use Rattle.blocking.specs.Refusals.{lengths, begun, refused, wrong}
+use Rattle.parked.specs.Wants.{wants}
+use Rattle.parked.specs.After.{answer, after}
+use Rattle.parked.specs.Refusals.{lengths, begun, refused, wrong}
 
 -- what a run comes to
 pub record Outcome : Type 0 where

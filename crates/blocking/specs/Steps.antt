@@ -3,15 +3,15 @@ use Prim.Native.Nat.{ℕ, _+_, _-_, _/_, _≤_}
 use mathlib.Core.Path.{_≡_}
 use mathlib.Core.List.{List, [], _∷_, _++_}
 use lib.ListN.{length, take, drop}
-use Rattle.registers.specs.Answers.{said}
-use Rattle.blocking.specs.declared.End.{End}
-use Rattle.blocking.specs.declared.Phase.the-variants.{Ended}
-use Rattle.blocking.specs.declared.Parked.{Parked}
+use Rattle.answers.specs.Answers.{said}
+use Rattle.parked.specs.declared.End.{End}
+use Rattle.parked.specs.declared.Phase.the-variants.{Ended}
+use Rattle.parked.specs.declared.Parked.{Parked}
 use Rattle.blocking.specs.declared.Turn.{Turn}
 use Rattle.blocking.specs.declared.Turn.the-variants.{Again, Found, Over}
 use Rattle.blocking.specs.declared.Progress.{Progress}
 use Rattle.blocking.specs.declared.Ran.{Ran}
-use Rattle.blocking.specs.After.{answer}
+use Rattle.parked.specs.After.{answer}
 use Rattle.blocking.specs.Run.{Outcome, stopped, joined, runs}
 
 -- what is returned where no access follows

@@ -1,13 +1,13 @@
 // Construction.
 ghost use lib.ListN.{length};
 ghost use mathlib.Core.Bool.{true};
-ghost use Rattle.registers.specs.Access.{Reported};
-ghost use Rattle.registers.specs.SetUp.{setUp};
+ghost use Rattle.access.specs.Access.{Reported};
+ghost use Rattle.construction.specs.SetUp.{setUp};
 ghost use Rattle.registers.specs.Words.{ownSeven};
-use registers::access::Report;
+use access::Report;
+use construction::set_up;
 use registers::config::Config;
 use registers::oar::Oar1;
-use registers::setup::set_up;
 
 // Sets the unit up for a clock of so many hertz. OAR1 holds the low seven bits of the own address, in ten-bit mode too.
 pub fn i2c1(config: Config, clock: u32, words: &[u32], log: &mut [u32]) -> Report

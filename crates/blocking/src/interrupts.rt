@@ -1,14 +1,14 @@
 // The interrupts of the blocking driver, by event. None of these calls waits.
 ghost use lib.ListN.{length};
-ghost use Rattle.registers.specs.Access.{Reported};
+ghost use Rattle.access.specs.Access.{Reported};
 ghost use Rattle.blocking.specs.NeverWait.{interruptWord, interrupt, clearIrq};
 ghost use mathlib.Core.Path.{_≡_};
 ghost use mathlib.Core.Bool.{Bool};
 use crate::Event;
-use registers::access::Report;
-use registers::access::settle;
-use registers::access::word_at;
-use registers::answer::Answer;
+use access::Report;
+use access::settle;
+use access::word_at;
+use answers::Answer;
 use registers::cr1::Cr1;
 use registers::isr::Icr;
 use registers::isr::Isr;

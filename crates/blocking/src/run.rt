@@ -4,30 +4,28 @@ ghost use Prim.Native.Nat.{_/_, _≤_};
 ghost use lib.ListN.{length, getD};
 ghost use Rattle.blocking.specs.Run.{kept, runs, outcome, called, resumed, room, Whole};
 ghost use Rattle.blocking.specs.Steps.{Told, Answered, Turned, Forward};
-use crate::End;
-use crate::Kind;
-use crate::Next;
-use crate::Parked;
-use crate::Phase;
 use crate::Progress;
 use crate::Ran;
 use crate::Turn;
-use registers::answer::Answer;
+use answers::Answer;
+use parked::End;
+use parked::Kind;
+use parked::Next;
+use parked::Parked;
+use parked::Phase;
 use registers::data::Rxdr;
 
-impl Parked {
-    fn turn(self) -> Turn
-        ensures { λ r. ⌜ Told r self ⌝ }
-    {
-        let phase = self.phase;
-        if let Phase::Ended(end) = phase {
-            return Turn::Over(end);
-        }
-        if let Phase::Transfer = phase {
-            return Turn::Found;
-        }
-        Turn::Again
+fn turn(call: Parked) -> Turn
+    ensures { λ r. ⌜ Told r call ⌝ }
+{
+    let phase = call.phase;
+    if let Phase::Ended(end) = phase {
+        return Turn::Over(end);
     }
+    if let Phase::Transfer = phase {
+        return Turn::Found;
+    }
+    Turn::Again
 }
 
 // The byte to send, 0x21 after the last.
@@ -94,7 +92,7 @@ fn advance(
             keep_byte(keep, count, word, receive);
             let after = call.after(word);
             Progress {
-                turn: after.turn(),
+                turn: turn(after),
                 parked: after,
                 taken: 1,
                 logged: 2,
@@ -108,7 +106,7 @@ fn advance(
             log[1] = word;
             let after = call.after(0);
             Progress {
-                turn: after.turn(),
+                turn: turn(after),
                 parked: after,
                 taken: 0,
                 logged: 2,

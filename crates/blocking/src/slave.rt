@@ -1,17 +1,17 @@
 // The slave's calls. Those that wait are begun and run, and park; those that never wait are refused whole: no access is made where a word or room is missing.
 ghost use mathlib.Core.List.{[]};
 ghost use lib.ListN.{length};
-ghost use Rattle.registers.specs.Access.{Reported};
+ghost use Rattle.access.specs.Access.{Reported};
 ghost use Rattle.blocking.specs.Run.{called, room, Whole};
 ghost use Rattle.blocking.specs.NeverWait.{slaveAddressed, slaveSbc};
-use crate::Kind;
 use crate::Ran;
-use crate::machine::addressed;
 use crate::run::begin;
-use registers::access::Report;
-use registers::access::settle;
-use registers::access::word_at;
-use registers::answer::Answer;
+use access::Report;
+use access::settle;
+use access::word_at;
+use answers::Answer;
+use parked::Kind;
+use parked::machine::addressed;
 use registers::cr1::Cr1;
 use registers::isr::Isr;
 

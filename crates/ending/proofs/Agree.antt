@@ -10,8 +10,8 @@ use lib.ListN.{length, getD, take, set, length-set}
 use lib.Seq.{getD-set-same, getD-set-other}
 use lib.Dec.{T, eqb, ltb}
 use borrow.Author.Tests.{ltb-true, eqb-true, eqb-false}
-use Rattle.registers.specs.Access.{over}
-use Rattle.registers.proofs.Over.{over-length}
+use Rattle.access.specs.Access.{over}
+use Rattle.access.proofs.Over.{over-length}
 use Rattle.ending.specs.Link.{Link}
 use Rattle.ending.specs.Link.{Common, linkOf}
 use Rattle.ending.specs.Plan.{raised}

@@ -10,8 +10,8 @@ use Rattle.registers.specs.declared.isr.Flag.the-variants.{Berr, Arlo, Nackf, T
 use Rattle.registers.specs.Layout.{DIR, RXNE, _has_}
 use Rattle.registers.specs.Words.{starting, received}
 use Rattle.registers.specs.Flags.{takenAs}
-use Rattle.registers.specs.Access.{Access, reads, entries}
-use Rattle.registers.proofs.Over.{over-length}
+use Rattle.access.specs.Access.{Access, reads, entries}
+use Rattle.access.proofs.Over.{over-length}
 use Rattle.ending.specs.Link.{Link}
 use Rattle.ending.specs.Link.{fresh, impossible}
 use Rattle.ending.specs.Call.{Call, Step, masterWrite, masterWriteRead, masterRead, slaveWrite, checkIsrFlags, executeWatchdog, getErrorsReset, masterGetData, slaveGetData, getAddress, listen, unlisten, slaveSbc, setAddress}

@@ -5,8 +5,10 @@ pub mod Needed
 pub mod OneCall
 pub mod OneCheck
 pub mod OneStep
+pub mod Outcomes
 pub mod Premises
 pub mod Rows
 pub mod Runs
+pub mod Settling
 pub mod StartSet
 pub mod Theorem

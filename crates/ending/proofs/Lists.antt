@@ -10,7 +10,7 @@ use lib.ListN.{length, getD, take, set, getElem?, replicate, length-take, length
 use lib.Seq.{getD-take, getD-set-same, getD-set-other}
 use lib.Dec.{eqb}
 use borrow.Author.Tests.{eqb-true, eqb-false}
-use Rattle.registers.specs.Access.{over}
+use Rattle.access.specs.Access.{over}
 
 -- an empty place is no filled one
 pub none-some {ℓ} : {X : Type ℓ} {A : Type 0} {v : A} → none ≡ some v → X

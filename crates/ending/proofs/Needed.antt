@@ -6,13 +6,13 @@ use mathlib.Core.Bool.{Bool, true, false, _&&_, _||_}
 use mathlib.Core.Option.{none, some}
 use mathlib.Core.List.{List, [], _∷_}
 use lib.ListN.{take}
-use Rattle.registers.specs.Field.{get, put, isSet}
+use Rattle.fields.specs.Field.{get, put, isSet}
 use Rattle.registers.specs.Layout.{CR2, ISR, TXDR}
 use Rattle.registers.specs.Words.{starting, sized}
 use Rattle.registers.specs.Words.{started as startWord}
 use Rattle.registers.specs.Flags.{takenAs, directionOf}
-use Rattle.registers.specs.Access.{Access, read, write}
-use Rattle.registers.specs.Answers.{says}
+use Rattle.access.specs.Access.{Access, read, write}
+use Rattle.answers.specs.Answers.{says}
 use Rattle.ending.specs.Link.{oneMore, impossible}
 use Rattle.ending.specs.Call.{Call, Step, masterWrite, masterWriteRead, masterRead, slaveWrite, checkIsrFlags, getErrorsReset, masterGetData}
 use Rattle.ending.specs.Outcome.{outcome}

@@ -8,8 +8,8 @@ use lib.Dec.{T, eqb, ltb, leb, leb→le}
 use Rattle.registers.specs.Layout.{CR2, ISR}
 use Rattle.registers.specs.Words.{starting}
 use Rattle.registers.specs.Flags.{takenAs}
-use Rattle.registers.specs.Access.{Access, read, reads, entries}
-use Rattle.registers.specs.Answers.{Said, says}
+use Rattle.access.specs.Access.{Access, read, reads, entries}
+use Rattle.answers.specs.Answers.{Said, says}
 use Rattle.ending.specs.Link.{Link}
 use Rattle.ending.specs.Link.{Common, linkOf, begun, turned, withWatchdog, oneMore}
 use Rattle.ending.specs.Call.{Call, masterWrite, masterWriteRead, masterRead, slaveWrite, checkIsrFlags, executeWatchdog, getErrorsReset, masterGetData, slaveGetData, getAddress, listen, unlisten, slaveSbc, setAddress}

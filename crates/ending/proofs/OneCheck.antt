@@ -11,8 +11,8 @@ use Rattle.registers.specs.declared.isr.Flag.{Flag}
 use Rattle.registers.specs.declared.isr.Flag.the-variants.{Berr, Arlo, Nackf, Txis, Rxne, Stopf, Tc, Tcr, Addr, Nothing}
 use Rattle.registers.specs.Layout.{CR2, TXDR, DIR, RXNE, _has_}
 use Rattle.registers.specs.Words.{sadd16, started, sent, received}
-use Rattle.registers.specs.Access.{Access, write, reads, entries}
-use Rattle.registers.specs.Answers.{Said, says}
+use Rattle.access.specs.Access.{Access, write, reads, entries}
+use Rattle.answers.specs.Answers.{Said, says}
 use Rattle.ending.specs.Link.{Link}
 use Rattle.ending.specs.Link.{Common, linkOf, begun, turned, atIndex, withWatchdog, addressed, oneMore}
 use Rattle.ending.specs.Call.{Call, checkIsrFlags}

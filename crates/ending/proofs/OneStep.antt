@@ -7,7 +7,7 @@ use native.Mathlib.Omega.{arith}
 use lib.ListN.{length, getD}
 use lib.Dec.{T, ltb, leb}
 use borrow.Author.Tests.{ltb-false}
-use Rattle.registers.specs.Access.{Access, reads, entries}
+use Rattle.access.specs.Access.{Access, reads, entries}
 use Rattle.ending.specs.Link.{Link}
 use Rattle.ending.specs.Link.{linkOf, impossibleAt, impossible}
 use Rattle.ending.specs.Call.{Call, Step}

@@ -5,11 +5,11 @@ use mathlib.Core.Option.{Option, none, some}
 use mathlib.Core.List.{List, [], _∷_, map}
 use lib.ListN.{take}
 use lib.Dec.{T}
-use Rattle.registers.specs.Field.{get, put, isSet}
+use Rattle.fields.specs.Field.{get, put, isSet}
 use Rattle.registers.specs.Words.{sized}
 use Rattle.registers.specs.Words.{started as startWord}
 use Rattle.registers.specs.Flags.{takenAs, directionOf}
-use Rattle.registers.specs.Answers.{says}
+use Rattle.answers.specs.Answers.{says}
 use Rattle.ending.specs.Link.{fresh, oneMore, impossible}
 use Rattle.ending.specs.Call.{Call, Step, masterWrite, masterWriteRead, masterRead, checkIsrFlags, masterGetData, roleOf, isStart}
 use Rattle.ending.specs.Outcome.{outcome}

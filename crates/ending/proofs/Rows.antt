@@ -2,12 +2,12 @@
 use mathlib.Core.Path.{_≡_, refl}
 use mathlib.Core.List.{List, [], _∷_, map}
 use Prim.Native.Nat.{ℕ}
-use Rattle.registers.specs.Field.{get, put, isSet}
+use Rattle.fields.specs.Field.{get, put, isSet}
 use Rattle.registers.specs.Layout.{CR2, ISR, ICR, TXDR, RXDR}
 use Rattle.registers.specs.Words.{started}
 use Rattle.registers.specs.Flags.{takenAs, directionOf}
-use Rattle.registers.specs.Access.{Access, read, write}
-use Rattle.registers.specs.Answers.{Said, says}
+use Rattle.access.specs.Access.{Access, read, write}
+use Rattle.answers.specs.Answers.{Said, says}
 use Rattle.ending.specs.Link.{fresh, oneMore, impossible}
 use Rattle.ending.specs.Call.{Call, Step, masterWrite, masterWriteRead, checkIsrFlags, getErrorsReset}
 use Rattle.ending.specs.Outcome.{outcome}

@@ -5,10 +5,11 @@ use mathlib.Core.Logic.{inl, inr}
 use mathlib.Core.Bool.{Bool, true}
 use native.Mathlib.Omega.{arith}
 use borrow.Author.Tests.{eq-eqb}
-use Rattle.registers.specs.Field.{isSet}
+use Rattle.fields.specs.Field.{isSet}
 use Rattle.registers.specs.Layout.{place, SADD, RD-WRN, START, NBYTES, RELOAD, AUTOEND, _⟨_≔_⟩, _⟨_⟩}
-use Rattle.registers.specs.Words.{digit, starting, started}
-use Rattle.registers.proofs.FieldLaws.{put-lt, get-put, get-other}
+use Rattle.fields.specs.Field.{digit}
+use Rattle.registers.specs.Words.{starting, started}
+use Rattle.fields.proofs.FieldLaws.{put-lt, get-put, get-other}
 
 -- START is put first, and no field put after it touches it
 pub start-set : (sadd n : ℕ) (read autoend : Bool) → starting (started 0 sadd n read autoend) ≡ true

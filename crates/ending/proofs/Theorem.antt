@@ -7,8 +7,8 @@ use native.Mathlib.Omega.{arith}
 use lib.ListN.{length, replicate}
 use lib.Dec.{T, ltb, leb}
 use Rattle.registers.specs.Words.{starting}
-use Rattle.registers.specs.Access.{Access, reads, entries}
-use Rattle.registers.specs.Answers.{Said, says}
+use Rattle.access.specs.Access.{Access, reads, entries}
+use Rattle.answers.specs.Answers.{Said, says}
 use Rattle.ending.specs.Link.{Link}
 use Rattle.ending.specs.Link.{fresh, begun, impossible}
 use Rattle.ending.specs.Call.{Call, Step, masterWrite, masterWriteRead, masterRead, slaveWrite, checkIsrFlags, executeWatchdog, getErrorsReset, masterGetData, slaveGetData, getAddress, listen, unlisten, slaveSbc, setAddress}

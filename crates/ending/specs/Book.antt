@@ -11,8 +11,8 @@ use Rattle.registers.specs.declared.isr.Flag.the-variants.{Berr, Arlo, Nackf, T
 use Rattle.registers.specs.Layout.{Register, offset, CR2, RXDR, DIR, _has_}
 use Rattle.registers.specs.Words.{starting, received}
 use Rattle.registers.specs.Flags.{takenAs}
-use Rattle.registers.specs.Access.{Access, read, write}
-use Rattle.registers.specs.Answers.{Said}
+use Rattle.access.specs.Access.{Access, read, write}
+use Rattle.answers.specs.Answers.{Said}
 use Rattle.ending.specs.Call.{Call, Role, masterWrites, slaveWrites, masterReads, checks, tellsErrors, showsMaster, other, roleOf}
 use Rattle.ending.specs.Outcome.{Outcome}
 

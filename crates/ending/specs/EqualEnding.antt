@@ -15,7 +15,7 @@ use mathlib.Core.Option.{some}
 use mathlib.Core.List.{List, [], _∷_}
 use lib.ListN.{length, getD}
 use lib.Dec.{T}
-use Rattle.registers.specs.Answers.{says}
+use Rattle.answers.specs.Answers.{says}
 use Rattle.ending.specs.Link.{Link}
 use Rattle.ending.specs.Link.{fresh}
 use Rattle.ending.specs.Call.{Call, Step, Role, masterWrites, slaveWrites, masterReads, checks, tellsErrors, showsMaster, other, roleOf, isStart}

@@ -5,10 +5,10 @@ use mathlib.Core.Bool.{Bool, true, false, cond}
 use mathlib.Core.List.{List, [], _∷_}
 use lib.ListN.{length, getD, take}
 use lib.Dec.{leb, eqb}
-use Rattle.registers.specs.declared.access.Report.{Report}
-use Rattle.registers.specs.declared.answer.Answer.the-variants.{ImpossibleLink}
-use Rattle.registers.specs.Access.{Access, reads, entries, over}
-use Rattle.registers.specs.Answers.{Said, says, said}
+use Rattle.access.specs.declared.Report.{Report}
+use Rattle.answers.specs.declared.Answer.the-variants.{ImpossibleLink}
+use Rattle.access.specs.Access.{Access, reads, entries, over}
+use Rattle.answers.specs.Answers.{Said, says, said}
 use Rattle.ending.specs.Link.{Link}
 use Rattle.ending.specs.Link.{impossible}
 use Rattle.ending.specs.Call.{Step}

@@ -9,8 +9,8 @@ use Rattle.registers.specs.declared.isr.Flag.the-variants.{Berr, Arlo, Nackf, T
 use Rattle.registers.specs.Layout.{CR1, CR2, OAR1, ISR, ICR, RXDR, TXDR, RXNE, ADDR, NACKF, STOPF, BERR, ARLO, DIR, _has_}
 use Rattle.registers.specs.Words.{powered, interrupts, byteControl, sadd16, starting, started, sized, refused, stopped, ownSeven, flushed, cleared, sent, received}
 use Rattle.registers.specs.Flags.{takenAs, directionOf, addressCode}
-use Rattle.registers.specs.Access.{Access, read, write, over}
-use Rattle.registers.specs.Answers.{Said, says, directionNumber}
+use Rattle.access.specs.Access.{Access, read, write, over}
+use Rattle.answers.specs.Answers.{Said, says, directionNumber}
 use Rattle.ending.specs.Link.{Link}
 use Rattle.ending.specs.Link.{Common, common, linkOf, begun, turned, atIndex, withWatchdog, addressed, oneMore}
 use Rattle.ending.specs.Call.{Call, masterWrite, masterWriteRead, masterRead, slaveWrite, checkIsrFlags, executeWatchdog, getErrorsReset, masterGetData, slaveGetData, getAddress, listen, unlisten, slaveSbc, setAddress}

@@ -41,7 +41,7 @@ pub use denote.Triple.Walked.{says, Stays, stay-ref, walkOf, goes-ref, ends-at, 
 use denote.Memory.{mem, cellAt}
 use denote.Struct.Steps.{spelt}
 use denote.Triple.Table.{entered, cited}
-use Rattle.registers.specs.declared.access.Report.{Report}
+use Rattle.access.specs.declared.Report.{Report}
 pub use Rattle.nonblocking.specs.declared.link.Link.{Link}
 pub use Rattle.nonblocking.specs.declared.link.Called.{Called}
 use denote.Struct.Laws as LL
@@ -49,8 +49,8 @@ use Rattle.nonblocking.proofs.link.Link as L
 use Rattle.nonblocking.proofs.link.Link.Laws as L′
 use Rattle.nonblocking.proofs.link.Called as R
 use Rattle.nonblocking.proofs.link.Called.Laws as R′
-use Rattle.registers.proofs.access.Report as P
-use Rattle.registers.proofs.access.Report.Laws as P′
+use Rattle.access.proofs.Report as P
+use Rattle.access.proofs.Report.Laws as P′
 
 -- the machine values of a link, of a report and of both
 abbrev pub link-val : Link → Val

@@ -1,4 +1,1 @@
-pub mod Laid
 pub mod Lending
-pub mod Outcomes
-pub mod Settling

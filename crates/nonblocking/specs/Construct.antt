@@ -4,10 +4,10 @@ use mathlib.Core.Path.{_≡_}
 use mathlib.Core.Bool.{Bool, true, false}
 use mathlib.Core.List.{List}
 use lib.ListN.{length}
-use Rattle.registers.specs.declared.access.Report.{Report}
+use Rattle.access.specs.declared.Report.{Report}
 use Rattle.registers.specs.declared.config.Config.{Config}
-use Rattle.registers.specs.Access.{Reported}
-use Rattle.registers.specs.SetUp.{setUp}
+use Rattle.access.specs.Access.{Reported}
+use Rattle.construction.specs.SetUp.{setUp}
 use Rattle.registers.specs.Words.{ownSeven, ownTen}
 use Rattle.nonblocking.specs.declared.link.Link.{Link}
 use Rattle.nonblocking.specs.Model.{model}

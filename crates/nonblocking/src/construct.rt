@@ -1,15 +1,15 @@
 // Construction.
 ghost use mathlib.Core.Path.{_≡_};
 ghost use lib.ListN.{length as size};
-ghost use Rattle.registers.specs.Access.{Reported};
-ghost use Rattle.registers.specs.SetUp.{setUp};
+ghost use Rattle.access.specs.Access.{Reported};
+ghost use Rattle.construction.specs.SetUp.{setUp};
 ghost use Rattle.ending.specs.Link.{fresh};
 ghost use Rattle.nonblocking.specs.Construct.{ownAddress, Constructed};
 use crate::link::Called;
 use crate::link::Link;
+use construction::set_up;
 use registers::config::Config;
 use registers::oar::Oar1;
-use registers::setup::set_up;
 
 impl Link {
     // Sets the unit up for a clock of so many hertz. A refusal leaves the unit as it was; the link is fresh either way.

@@ -10,9 +10,9 @@ ghost use Rattle.ending.specs.Link.{impossible};
 ghost use mathlib.Core.Bool.{cond};
 use crate::link::Called;
 use crate::link::Link;
-use crate::link::impossible;
-use registers::access::refused;
-use registers::answer::Answer;
+use access::refused;
+use answers::Answer;
+use starts::impossible;
 
 impl Link {
     // Shows as many bytes as the last transfer was to have.

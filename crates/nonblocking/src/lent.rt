@@ -6,7 +6,7 @@ ghost use Rattle.ending.specs.Call.{executeWatchdog, getErrorsReset};
 ghost use Rattle.ending.specs.Outcome.{outcome, Matches};
 ghost use Rattle.nonblocking.specs.Model.{model};
 use crate::link::Link;
-use registers::access::Report;
+use access::Report;
 
 // `execute_watchdog` on a lent link.
 pub fn execute_watchdog(link: &mut Link, words: &[u32], log: &mut [u32]) -> Report

@@ -1,8 +1,8 @@
 // The link of the non-blocking driver.
 ghost use mathlib.Core.Path.{_≡_};
-ghost use Rattle.ending.specs.Link.{fresh, impossibleAt};
+ghost use Rattle.ending.specs.Link.{fresh};
 ghost use Rattle.nonblocking.specs.Model.{model};
-use registers::access::Report;
+use access::Report;
 
 // What a link holds between calls.
 pub struct Link {
@@ -40,20 +40,4 @@ impl Link {
             data: [0u8; 255],
         }
     }
-}
-
-// Whether no run of calls leaves such a link: answer 12.
-pub fn impossible(index: usize, length: usize, length_write_read: usize, watchdog: u16) -> bool
-    ensures { λ r. ⌜ r ≡ impossibleAt index length «length_write_read» watchdog ⌝ }
-{
-    if length < index {
-        return true;
-    }
-    if 255 < length {
-        return true;
-    }
-    if 255 < length_write_read {
-        return true;
-    }
-    10 < watchdog
 }

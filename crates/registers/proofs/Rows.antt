@@ -4,8 +4,8 @@ use mathlib.Core.Bool.{true, false}
 use mathlib.Core.List.{[], _∷_}
 use Prim.Native.Nat.{ℕ}
 use Rattle.registers.specs.declared.config.Setting.the-variants.{Unset, Set}
-use Rattle.registers.specs.Field.{get, put}
-use Rattle.registers.specs.Answers.{Said, says}
+use Rattle.fields.specs.Field.{get, put}
+use Rattle.answers.specs.Answers.{Said, says}
 use Rattle.registers.specs.Config.{plain, timingBits, period}
 use Rattle.registers.specs.Words.{started, sadd16, ownSeven, ownTen, ownSecond}
 

@@ -12,7 +12,7 @@ use Rattle.registers.specs.declared.config.Timing.the-variants.{Bits, No
 use Rattle.registers.specs.declared.config.SlaveAddressMask.{SlaveAddressMask}
 use Rattle.registers.specs.declared.config.SlaveAddressMask.the-variants.{MaskNone, MaskOneBit, MaskTwoBits, MaskThreeBits, MaskFourBits, MaskFiveBits, MaskSixBits, MaskAllBits}
 use Rattle.registers.specs.Layout.{SCLL, SCLH, SDADEL, SCLDEL, PRESC, _⟨_≔_⟩, _⟨_⟩}
-use Rattle.registers.specs.Answers.{Said, says}
+use Rattle.answers.specs.Answers.{Said, says}
 
 abbrev pub maskNumber : SlaveAddressMask → ℕ
 maskNumber MaskNone = 0

@@ -7,8 +7,8 @@ use Rattle.registers.specs.declared.isr.Wanted.{Wanted}
 use Rattle.registers.specs.declared.isr.Wanted.the-variants.{Txis as WantTxis, Rxne as WantRxne, Tc as WantTc}
 use Rattle.registers.specs.declared.isr.Found.{Found}
 use Rattle.registers.specs.declared.isr.Found.the-variants.{Wanted as Met, Berr as MetBerr, Arlo as MetArlo, Nackf as MetNackf, Tcr as MetTcr, Addr as MetAddr, Stopf as MetStopf, Nothing as MetNothing}
-use Rattle.registers.specs.declared.answer.I2cDirection.{I2cDirection}
-use Rattle.registers.specs.declared.answer.I2cDirection.the-variants.{MasterReadSlaveWrite, MasterWriteSlaveRead}
+use Rattle.answers.specs.declared.I2cDirection.{I2cDirection}
+use Rattle.answers.specs.declared.I2cDirection.the-variants.{MasterReadSlaveWrite, MasterWriteSlaveRead}
 use Rattle.registers.specs.Layout.{Name, BERR, ARLO, NACKF, TXIS, RXNE, STOPF, TC, TCR, ADDR, DIR, ADDCODE, TXE, _⟨_⟩, _has_}
 
 -- 'taken as': the first set flag, in the order of `check_isr_flags`

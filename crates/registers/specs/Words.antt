@@ -1,15 +1,11 @@
 -- The register words that the drivers form. A `modify` puts fields into the word read; a `write` starts from 0, for ISR from 1.
 use Prim.Native.Nat.{ℕ, _*_, _%_}
 use mathlib.Core.Bool.{Bool, true, false, not}
+use Rattle.fields.specs.Field.{digit}
 use Rattle.registers.specs.Layout.{PE, TXIE, RXIE, ADDRIE, NACKIE, STOPIE, TCIE, ERRIE, DNF, ANFOFF, SBC}
 use Rattle.registers.specs.Layout.{SADD, RD-WRN, START, STOP, NACK, NBYTES, RELOAD, AUTOEND}
 use Rattle.registers.specs.Layout.{OA1, OA1-7-1, OA1MODE, OA1EN, OA2, OA2MSK, OA2EN, TXE, RXDATA, TXDATA}
 use Rattle.registers.specs.Layout.{Name, _⟨_≔_⟩, _⟨_⟩, _has_}
-
--- a Bool as a bit
-abbrev pub digit : Bool → ℕ
-digit true = 1
-digit false = 0
 
 -- CR1: PE, at construction and by the watchdog
 abbrev pub powered : ℕ → Bool → ℕ

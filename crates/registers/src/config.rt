@@ -2,10 +2,10 @@
 ghost use mathlib.Core.Path.{_≡_};
 ghost use mathlib.Core.Bool.{true, false};
 ghost use Prim.Native.Nat.{_<_, _≤_, min};
-ghost use Rattle.registers.specs.Answers.{said};
+ghost use Rattle.answers.specs.Answers.{said};
 ghost use Rattle.registers.specs.Config.{maskNumber, plain, withFilters, withOwnAddress, withSecondAddress, filterAnswer, withFilter, modeOf, modeWord, atQuotient, atSpeed, timingBits, saidTiming, period};
-use crate::answer::Answer;
-use crate::field::Field;
+use answers::Answer;
+use fields::Field;
 
 // How many of the low bits of the second address are not compared.
 pub enum SlaveAddressMask {

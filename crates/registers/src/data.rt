@@ -1,7 +1,7 @@
 // RXDR and TXDR: the byte that came in, and the byte to send.
 ghost use mathlib.Core.Path.{_≡_};
 ghost use Rattle.registers.specs.Words.{received, sent};
-use crate::field::Field;
+use fields::Field;
 
 pub struct Rxdr;
 

@@ -2,12 +2,12 @@
 ghost use mathlib.Core.Path.{_≡_};
 ghost use mathlib.Core.Bool.{_||_, cond};
 ghost use Prim.Native.Nat.{_<_};
-ghost use Rattle.registers.specs.Field.{put};
+ghost use Rattle.fields.specs.Field.{put};
 ghost use Rattle.registers.specs.Layout.{_has_, BERR, ARLO, NACKF, STOPF, TC, TCR, ADDR};
 ghost use Rattle.registers.specs.Words.{flushed};
 ghost use Rattle.registers.specs.Flags.{takenAs, wantedName, foundIn, directionOf, addressCode};
-use crate::answer::I2cDirection;
-use crate::field::Field;
+use answers::I2cDirection;
+use fields::Field;
 
 // The flag that an ISR word is taken as.
 pub enum Flag {

@@ -1,14 +1,10 @@
-// The registers of the STM32G0's I2C unit: layout, words, flags, the access log, answers and the configuration.
+// The registers of the STM32G0's I2C unit: layout, words, flags, and the configuration with its timing.
 // Nothing here touches a device: a driver above takes the words that were read from a lent list, and logs each access.
-pub mod access;
-pub mod answer;
 pub mod config;
 pub mod cr1;
 pub mod cr2;
 pub mod data;
-pub mod field;
 pub mod isr;
 pub mod layout;
 pub mod oar;
-pub mod setup;
 pub mod timingr;

@@ -3,7 +3,7 @@ ghost use mathlib.Core.Path.{_≡_};
 ghost use Rattle.registers.specs.Words.{ownSeven, ownTen, ownSecond};
 ghost use Rattle.registers.specs.Config.{maskNumber};
 use crate::config::SlaveAddressMask;
-use crate::field::Field;
+use fields::Field;
 
 pub struct Oar1;
 

@@ -1,8 +1,8 @@
 // Accesses and answers as lines.
+use answers::Answer;
+use answers::I2cDirection;
 use libc::STDOUT_FILENO;
 use nonblocking::link::Called;
-use registers::answer::Answer;
-use registers::answer::I2cDirection;
 
 fn wide(b: u8) -> u32 {
     b as u32

@@ -3,9 +3,9 @@ use crate::input::Line;
 use crate::input::next_line;
 use crate::output::print_accesses;
 use crate::output::print_answer;
+use answers::Answer;
 use nonblocking::link::Called;
 use nonblocking::link::Link;
-use registers::answer::Answer;
 
 // The words read ahead: a call takes at most three.
 pub struct Ahead {

@@ -4,8 +4,8 @@ use mathlib.Core.List.{List}
 use Prim.Native.Nat.{ℕ, suc, zero-le, _/_, _≤_}
 use native.Mathlib.Omega.{arith}
 use lib.ListN.{length, getD, drop}
-use Rattle.blocking.specs.declared.End.the-variants.{OutOfWords, LogFull}
-use Rattle.blocking.specs.Wants.{wants}
+use Rattle.parked.specs.declared.End.the-variants.{OutOfWords, LogFull}
+use Rattle.parked.specs.Wants.{wants}
 use Rattle.blocking.specs.Run.{next}
 use Rattle.blocking.proofs.Stretches.{turned-over, turned-step, run-over, run-out, run-read, run-write, full-read, full-write, room-none}
 use borrow.Author.Needs.{needs}

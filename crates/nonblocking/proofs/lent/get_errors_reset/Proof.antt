@@ -11,7 +11,7 @@ use Rattle.ending.specs.Outcome.{outcome, Matches}
 use Rattle.nonblocking.specs.Model.{model}
 use Rattle.nonblocking.proofs.link.Link as L
 use Rattle.nonblocking.proofs.link.Called as R
-use Rattle.registers.proofs.access.Report as P
+use Rattle.access.proofs.Report as P
 use Rattle.nonblocking.proofs.link.Link.get_errors_reset as method
 use Rattle.nonblocking.proofs.link.Link.get_errors_reset.Symbol as symbol
 use Rattle.nonblocking.proofs.link.Link.get_errors_reset.Met as known

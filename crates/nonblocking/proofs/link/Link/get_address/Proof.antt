@@ -1,10 +1,10 @@
 -- `nonblocking::link::Link::get_address` meets its contract.
 use mathlib.Core.Path.{refl}
 use mathlib.Core.List.{[]}
-use Rattle.registers.specs.declared.answer.Answer.the-variants.{Address}
+use Rattle.answers.specs.declared.Answer.the-variants.{Address}
 use Rattle.ending.specs.Outcome.{outcome}
 use Rattle.nonblocking.specs.Model.{model}
-use Rattle.nonblocking.proofs.Outcomes.{tell-matches}
+use Rattle.ending.proofs.Outcomes.{tell-matches}
 use Rattle.nonblocking.proofs.link.Link.get_address.Statement.{statement}
 use Rattle.nonblocking.proofs.link.Link.get_address.Tie as tie
 

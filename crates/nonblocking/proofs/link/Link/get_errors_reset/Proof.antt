@@ -3,9 +3,9 @@ use mathlib.Core.Path.{_≡_, refl, sym, _∙_}
 use mathlib.Core.List.{[], _∷_}
 use Rattle.ending.specs.Call.{getErrorsReset}
 use Rattle.ending.specs.Link.{common, linkOf}
-use Rattle.registers.specs.Answers.{says}
+use Rattle.answers.specs.Answers.{says}
 use Rattle.nonblocking.specs.Model.{model}
-use Rattle.nonblocking.proofs.Outcomes.{outcome-12, outcome-of, bare}
+use Rattle.ending.proofs.Outcomes.{outcome-12, outcome-of, bare}
 use Rattle.nonblocking.proofs.link.Link.get_errors_reset.Statement.{statement}
 use Rattle.nonblocking.proofs.link.Link.get_errors_reset.Tie as tie
 

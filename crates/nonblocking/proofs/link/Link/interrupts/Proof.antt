@@ -3,8 +3,8 @@ use mathlib.Core.Path.{_≡_, refl, sym, _∙_}
 use lib.ListN.{getD}
 use Rattle.ending.specs.Plan.{interruptPlan}
 use Rattle.nonblocking.specs.Model.{model}
-use Rattle.nonblocking.proofs.Outcomes.{settled-12, settled-possible}
-use Rattle.nonblocking.proofs.Settling.{same}
+use Rattle.ending.proofs.Outcomes.{settled-12, settled-possible}
+use Rattle.ending.proofs.Settling.{same}
 use borrow.Author.Needs.{needs}
 use Rattle.nonblocking.proofs.link.Link.interrupts.Statement.{statement}
 use Rattle.nonblocking.proofs.link.Link.interrupts.Tie as tie

@@ -1,10 +1,10 @@
 -- `nonblocking::link::Link::master_get_data` meets its contract.
 use mathlib.Core.Path.{refl}
 use lib.ListN.{take}
-use Rattle.registers.specs.declared.answer.Answer.the-variants.{Bytes}
+use Rattle.answers.specs.declared.Answer.the-variants.{Bytes}
 use Rattle.ending.specs.Outcome.{outcome}
 use Rattle.nonblocking.specs.Model.{model}
-use Rattle.nonblocking.proofs.Outcomes.{tell-matches}
+use Rattle.ending.proofs.Outcomes.{tell-matches}
 use Rattle.nonblocking.proofs.link.Link.master_get_data.Statement.{statement}
 use Rattle.nonblocking.proofs.link.Link.master_get_data.Tie as tie
 

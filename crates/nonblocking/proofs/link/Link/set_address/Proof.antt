@@ -4,8 +4,8 @@ use lib.ListN.{getD}
 use Rattle.ending.specs.Call.{setAddress}
 use Rattle.ending.specs.Plan.{planOf}
 use Rattle.nonblocking.specs.Model.{model}
-use Rattle.nonblocking.proofs.Outcomes.{outcome-12, outcome-of}
-use Rattle.nonblocking.proofs.Settling.{same}
+use Rattle.ending.proofs.Outcomes.{outcome-12, outcome-of}
+use Rattle.ending.proofs.Settling.{same}
 use borrow.Author.Needs.{needs}
 use Rattle.nonblocking.proofs.link.Link.set_address.Statement.{statement}
 use Rattle.nonblocking.proofs.link.Link.set_address.Tie as tie

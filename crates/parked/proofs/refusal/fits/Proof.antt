@@ -1,0 +1,15 @@
+-- `blocking::refusal::fits` meets its contract.
+use Rattle.parked.specs.Refusals.{fits}
+use Rattle.parked.proofs.refusal.fits.Statement.{statement}
+use Rattle.parked.proofs.refusal.fits.Tie as tie
+
+returns : tie.Need-returns
+unfolding fits
+returns c = rw (c .before .if1 .taken) (c .good2 .ensures)
+
+returns-2 : tie.Need-returns-2
+unfolding fits
+returns-2 c = rw (c .if1 .left)
+
+pub fits-spec : {M : Type 1} → statement M
+fits-spec = tie.close (tie.spec (λ c κs. tt) returns returns-2)

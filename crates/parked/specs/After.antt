@@ -1,0 +1,156 @@
+-- The parked call after its access. `w` is the word that the access read; after a write it does not matter.
+use Prim.Native.Nat.{ℕ, _+_}
+use mathlib.Core.Bool.{Bool, true, false, cond}
+use mathlib.Core.List.{[], _∷_}
+use lib.Dec.{eqb}
+use Rattle.answers.specs.Answers.{Said, says, directionNumber}
+use Rattle.registers.specs.declared.isr.Wanted.{Wanted}
+use Rattle.registers.specs.declared.isr.Wanted.the-variants.{Txis as WantTxis, Rxne as WantRxne, Tc as WantTc}
+use Rattle.registers.specs.declared.isr.Found.{Found}
+use Rattle.registers.specs.declared.isr.Found.the-variants.{Wanted as Met, Berr as MetBerr, Arlo as MetArlo, Nackf as MetNackf, Tcr as MetTcr, Addr as MetAddr, Stopf as MetStopf, Nothing as MetNothing}
+use Rattle.registers.specs.Layout.{TXE, TXIS, RXNE, ADDR, _has_}
+use Rattle.registers.specs.Words.{starting}
+use Rattle.registers.specs.Flags.{foundIn, directionOf, addressCode}
+use Rattle.parked.specs.declared.Kind.{Kind}
+use Rattle.parked.specs.declared.Kind.the-variants.{ReadBack}
+use Rattle.parked.specs.declared.Opening.{Opening}
+use Rattle.parked.specs.declared.Opening.the-variants.{Start, Drain, Modify, Setup, Flush, Release, Probe, Drop}
+use Rattle.parked.specs.declared.End.{End}
+use Rattle.parked.specs.declared.End.the-variants.{OutOfWords, LogFull, BadLength, Berr, Arlo, Addr, Stopf, Addressed}
+use Rattle.parked.specs.declared.Role.{Role}
+use Rattle.parked.specs.declared.Role.the-variants.{Byte, Second, Other, Nothing}
+use Rattle.parked.specs.declared.Phase.{Phase}
+use Rattle.parked.specs.declared.Phase.the-variants.{Open, Wait, Transfer, Restart, Stretched, Refuse, ClearBerr, ClearArlo, ClearNackf, ClearStopf, FlushTxis, FlushDummy, FlushTxe, FlushEmpty, Listen, Code, Ended}
+use Rattle.parked.specs.declared.Parked.{Parked}
+use Rattle.parked.specs.Kinds.{incoming, restarts, pads, afterStart, afterSetup, afterFlush, afterRelease}
+use Rattle.parked.specs.Wants.{span, more}
+
+abbrev pub afterOpening : Opening → Kind → ℕ → Phase
+afterOpening Start k w = cond (starting w) (Open Start) (Open (afterStart k))
+afterOpening Drain k w = Open Modify
+afterOpening Modify k w = Open (Setup w)
+afterOpening (Setup cr2) k w = afterSetup k
+afterOpening Flush k w = Open (afterFlush k)
+afterOpening Release k w = afterRelease k
+afterOpening Probe k w = cond (w has RXNE) (Open Drop) Wait
+afterOpening Drop k w = Wait
+
+-- the wait for TC: a `write_read` has sent its bytes
+unfoldable pub tcWait : Parked → Bool
+tcWait p = cond (more p) false (restarts (p .kind))
+
+-- the flag that is waited for
+unfoldable pub wanted : Parked → Wanted
+wanted p = cond (incoming (p .kind)) WantRxne (cond (tcWait p) WantTc WantTxis)
+
+-- the length that a final flag compares with the count: 254 in the wait for TC
+unfoldable pub compared : Parked → ℕ
+compared p = cond (tcWait p) 254 (span p)
+
+unfoldable pub whole : Parked → Bool
+whole p = eqb (p .count) (compared p)
+
+-- ADDR: done, or a short frame, also of no bytes
+unfoldable pub addrAnswer : Parked → Said
+addrAnswer p = cond (whole p) (says 0 []) (says 5 (p .count ∷ []))
+
+-- STOPF: done, no acknowledge where no byte went, or a short frame
+unfoldable pub stopAnswer : Parked → Said
+stopAnswer p = cond (whole p) (says 0 []) (cond (eqb (p .count) 0) (says 2 []) (says 5 (p .count ∷ [])))
+
+-- the answer, by document 01's number; code and direction are those of the second ISR read
+abbrev pub answer : End → Parked → Said
+answer OutOfWords p = says 9 []
+answer LogFull p = says 10 []
+answer BadLength p = says 6 []
+answer Berr p = says 3 []
+answer Arlo p = says 4 []
+answer Addr p = addrAnswer p
+answer Stopf p = stopAnswer p
+answer (Addressed isr) p = says 0x41 (addressCode isr ∷ directionNumber (directionOf isr) ∷ [])
+
+-- the wanted flag: TC restarts; a byte is moved while one is left, and `slave_write` sends on
+unfoldable pub found : Parked → Phase
+found p = cond (tcWait p) Restart (cond (pads (p .kind)) Transfer (cond (more p) Transfer Wait))
+
+-- a final flag ends the whole call; NACKF, TCR and no flag go on waiting
+abbrev pub afterFound : Found → Parked → Phase
+afterFound Met p = found p
+afterFound MetBerr p = ClearBerr
+afterFound MetArlo p = ClearArlo
+afterFound MetNackf p = ClearNackf
+afterFound MetTcr p = Stretched
+afterFound MetAddr p = Ended Addr
+afterFound MetStopf p = FlushTxis
+afterFound MetNothing p = Wait
+
+-- the phase after the access
+abbrev pub phaseAt : Phase → Parked → ℕ → Phase
+phaseAt (Open step) p w = afterOpening step (p .kind) w
+phaseAt Wait p w = afterFound (foundIn w (wanted p)) p
+phaseAt Transfer p w = Wait
+phaseAt Restart p w = Wait
+phaseAt Stretched p w = Refuse w
+phaseAt (Refuse cr2) p w = Wait
+phaseAt ClearBerr p w = Ended Berr
+phaseAt ClearArlo p w = Ended Arlo
+phaseAt ClearNackf p w = Wait
+phaseAt ClearStopf p w = Ended Stopf
+phaseAt FlushTxis p w = cond (w has TXIS) FlushDummy FlushTxe
+phaseAt FlushDummy p w = FlushTxe
+phaseAt FlushTxe p w = cond (w has TXE) FlushEmpty ClearStopf
+phaseAt FlushEmpty p w = ClearStopf
+phaseAt Listen p w = cond (w has ADDR) Code Listen
+phaseAt Code p w = Ended (Addressed w)
+phaseAt (Ended end) p w = Ended end
+
+-- what the access does to the count
+abbrev pub role : Phase → Role
+role (Open step) = Other
+role Wait = Other
+role Transfer = Byte
+role Restart = Second
+role Stretched = Other
+role (Refuse cr2) = Other
+role ClearBerr = Other
+role ClearArlo = Other
+role ClearNackf = Other
+role ClearStopf = Other
+role FlushTxis = Other
+role FlushDummy = Other
+role FlushTxe = Other
+role FlushEmpty = Other
+role Listen = Other
+role Code = Other
+role (Ended end) = Nothing
+
+abbrev pub turnsAs : Role → Bool → Bool
+turnsAs Byte t = false
+turnsAs Second t = t
+turnsAs Other t = false
+turnsAs Nothing t = false
+
+abbrev pub movesAs : Role → Bool → Bool
+movesAs Byte t = t
+movesAs Second t = false
+movesAs Other t = false
+movesAs Nothing t = false
+
+-- the second half of a `write_read` begins, and counts from 0
+unfoldable pub turns : Parked → Bool
+turns p = turnsAs (role (p .phase)) (restarts (p .kind))
+
+-- a byte went out or came in
+unfoldable pub moves : Parked → Bool
+moves p = movesAs (role (p .phase)) (more p)
+
+-- the parked call after its access: its phase, and its count; from its second START on a `write_read` is a read
+unfoldable pub after : Parked → ℕ → Parked
+after p w = record {
+  kind = cond (turns p) ReadBack (p .kind);
+  address = p .address;
+  send = p .send;
+  receive = p .receive;
+  phase = phaseAt (p .phase) p w;
+  count = cond (turns p) 0 (cond (moves p) (p .count + 1) (p .count));
+}

@@ -1,0 +1,4 @@
+pub mod After
+pub mod Kinds
+pub mod Refusals
+pub mod Wants

@@ -1,0 +1,119 @@
+// The master's starts.
+ghost use mathlib.Core.Path.{_≡_};
+ghost use Prim.Native.Nat.{ℕ};
+ghost use lib.ListN.{length as size, getD};
+ghost use Rattle.ending.specs.Link.{linkAt, impossible};
+ghost use Rattle.ending.specs.Plan.{writeStart, readStart};
+ghost use Rattle.ending.specs.Outcome.{settled, Matches};
+use crate::bytes::clear;
+use crate::bytes::copy_in;
+use crate::good_length;
+use crate::impossible;
+use access::Report;
+use access::refused;
+use access::settle;
+use access::word_at;
+use answers::Answer;
+use registers::cr2::Cr2;
+use registers::data::Rxdr;
+
+// A write over a link's fields, lent one by one. Without `autoend` a read of `read_len` bytes follows it.
+pub fn write_fields(
+    address: &mut u16,
+    watchdog: &mut u16,
+    index: &mut usize,
+    length: &mut usize,
+    length_write_read: &mut usize,
+    data: &mut [u8; 255],
+    addr: u16,
+    bytes: &[u8],
+    read_len: usize,
+    autoend: bool,
+    words: &[u32],
+    log: &mut [u32],
+) -> Report
+    ensures { λ r. ⌜ ((e : ℕ) → Matches (settled (impossible (linkAt (now (address .entry)) (now (watchdog .entry)) (now (index .entry)) (now (length .entry)) e (now («length_write_read» .entry)) (now («data» .entry))))
+        (writeStart addr (now (bytes .entry)) «read_len» autoend (getD (now (words .entry)) 0 0) (getD (now (words .entry)) 1 0) (linkAt (now (address .entry)) (now (watchdog .entry)) (now (index .entry)) (now (length .entry)) e (now («length_write_read» .entry)) (now («data» .entry))))
+        (now (words .entry)) (size (now (log .entry))) (linkAt (now (address .entry)) (now (watchdog .entry)) (now (index .entry)) (now (length .entry)) e (now («length_write_read» .entry)) (now («data» .entry)))) r
+        (linkAt (now (address .exit)) (now (watchdog .exit)) (now (index .exit)) (now (length .exit)) e (now («length_write_read» .exit)) (now («data» .exit))) (now (log .entry)) (now (log .exit))) ⌝ }
+{
+    if impossible(*index, *length, *length_write_read, *watchdog) {
+        return refused(Answer::ImpossibleLink);
+    }
+    let busy = word_at(words, 0);
+    // Check if the bus is free.
+    if Cr2::starting(busy) {
+        let entries = [Cr2::READ, busy];
+        return settle(Answer::Pending, 1, &entries, words, log);
+    }
+    if good_length(bytes) {
+        let cr2 = word_at(words, 1);
+        let start = Cr2::started(cr2, Cr2::sadd16(addr), bytes.len(), false, autoend);
+        let entries = [Cr2::READ, busy, Cr2::READ, cr2, Cr2::WRITE, start];
+        let report = settle(Answer::Done, 2, &entries, words, log);
+        if report.logged == 0 {
+            return report;
+        }
+        *address = addr;
+        *watchdog = 10;
+        *index = 0;
+        *length = bytes.len();
+        *length_write_read = read_len;
+        copy_in(data, bytes);
+        return report;
+    }
+    let entries = [Cr2::READ, busy];
+    settle(Answer::BadLength, 1, &entries, words, log)
+}
+
+// A read over a link's fields, lent one by one. The part of the buffer that it is to fill is cleared; RXDR is read to flush it.
+pub fn read_fields(
+    address: &mut u16,
+    watchdog: &mut u16,
+    index: &mut usize,
+    length: &mut usize,
+    length_write_read: usize,
+    data: &mut [u8; 255],
+    addr: u16,
+    read_len: u8,
+    words: &[u32],
+    log: &mut [u32],
+) -> Report
+    ensures { λ r. ⌜ ((e : ℕ) → Matches (settled (impossible (linkAt (now (address .entry)) (now (watchdog .entry)) (now (index .entry)) (now (length .entry)) e «length_write_read» (now («data» .entry))))
+        (readStart addr «read_len» (getD (now (words .entry)) 0 0) (getD (now (words .entry)) 1 0) (getD (now (words .entry)) 2 0) (linkAt (now (address .entry)) (now (watchdog .entry)) (now (index .entry)) (now (length .entry)) e «length_write_read» (now («data» .entry))))
+        (now (words .entry)) (size (now (log .entry))) (linkAt (now (address .entry)) (now (watchdog .entry)) (now (index .entry)) (now (length .entry)) e «length_write_read» (now («data» .entry)))) r
+        (linkAt (now (address .exit)) (now (watchdog .exit)) (now (index .exit)) (now (length .exit)) e «length_write_read» (now («data» .exit))) (now (log .entry)) (now (log .exit))) ⌝ }
+{
+    if impossible(*index, *length, length_write_read, *watchdog) {
+        return refused(Answer::ImpossibleLink);
+    }
+    let busy = word_at(words, 0);
+    if Cr2::starting(busy) {
+        let entries = [Cr2::READ, busy];
+        return settle(Answer::Pending, 1, &entries, words, log);
+    }
+    let n = read_len as usize;
+    let flushed = word_at(words, 1);
+    let cr2 = word_at(words, 2);
+    let start = Cr2::started(cr2, Cr2::sadd16(addr), n, true, true);
+    let entries = [
+        Cr2::READ,
+        busy,
+        Rxdr::READ,
+        flushed,
+        Cr2::READ,
+        cr2,
+        Cr2::WRITE,
+        start,
+    ];
+    let report = settle(Answer::Done, 3, &entries, words, log);
+    if report.logged == 0 {
+        return report;
+    }
+    *address = addr;
+    *watchdog = 10;
+    *index = 0;
+    *length = n;
+    clear(data, n);
+    report
+}
