@@ -1,4 +1,5 @@
 pub mod BufferLaw
+pub mod Construct
 pub mod CutLaw
 pub mod NeverWait
 pub mod Run

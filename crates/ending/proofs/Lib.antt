@@ -7,8 +7,8 @@ pub mod OneCheck
 pub mod OneStep
 pub mod Outcomes
 pub mod Premises
-pub mod Rows
 pub mod Runs
 pub mod Settling
 pub mod StartSet
 pub mod Theorem
+pub mod Walk

@@ -6,7 +6,7 @@ use mathlib.Core.List.{List}
 use lib.ListN.{length}
 use Rattle.access.specs.declared.Report.{Report}
 use Rattle.registers.specs.declared.config.Config.{Config}
-use Rattle.access.specs.Access.{Reported}
+use Rattle.access.specs.Access.{Settled, Reported}
 use Rattle.construction.specs.SetUp.{setUp}
 use Rattle.registers.specs.Words.{ownSeven, ownTen}
 use Rattle.nonblocking.specs.declared.link.Link.{Link}
@@ -18,6 +18,9 @@ abbrev pub ownAddress : Bool → ℕ → ℕ
 ownAddress true address = ownTen address
 ownAddress false address = ownSeven address false true
 
+abbrev pub construction : Config → ℕ → List ℕ → ℕ → Settled
+construction c clock words places = setUp c clock (ownAddress (c .«address_11bits») (c .«slave_address_1»)) words places
+
 pub record Constructed (c : Config) (clock : ℕ) (words before : List ℕ) (r : Report) (l : Link) (after : List ℕ) : Type 0 where
   pub link : model l ≡ fresh
-  pub report : Reported (setUp c clock (ownAddress (c .«address_11bits») (c .«slave_address_1»)) words (length before)) before r after
+  pub report : Reported (construction c clock words (length before)) before r after

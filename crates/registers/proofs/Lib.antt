@@ -1,2 +1,1 @@
 pub mod FlagOrder
-pub mod Rows

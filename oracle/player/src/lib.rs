@@ -15,5 +15,6 @@ mod random;
 mod reader;
 mod refusals;
 mod run;
+pub mod sample;
 mod unwaited;
 mod waiting;

@@ -1,9 +1,10 @@
-//! `oracle play`, `expect`, `draw`, `exhaust` and `compare`: see README.md.
+//! `oracle play`, `expect`, `draw`, `exhaust`, `sample` and `compare`: see README.md.
 
 use oracle::compare::compare;
 use oracle::draw::draw;
 use oracle::exhaust::exhaust;
 use oracle::player::{play, Ruling};
+use oracle::sample::sample;
 use std::fs::File;
 use std::io::{self, stdin, stdout, BufReader, BufWriter, Write};
 use std::process::ExitCode;
@@ -12,6 +13,7 @@ const USAGE: &str = "usage: oracle play < SCRIPT
        oracle expect < SCRIPT
        oracle draw --seed S --calls N
        oracle exhaust
+       oracle sample --seed S
        oracle compare SCRIPT OURS THEIRS";
 
 fn main() -> ExitCode {
@@ -37,6 +39,7 @@ fn run(arguments: &[&str]) -> io::Result<bool> {
             draw(number(seed)?, number(calls)?, &mut out)?
         }
         ["exhaust"] => exhaust(&mut out)?,
+        ["sample", "--seed", seed] => sample(number(seed)?, &mut out)?,
         ["compare", script, ours, theirs] => {
             let same = compare(open(script)?, open(ours)?, open(theirs)?, &mut out)?;
             out.flush()?;

@@ -24,14 +24,7 @@ struct Drawer {
 
 /// Writes a script of `calls` calls; bad lines count as calls.
 pub fn draw(seed: u64, calls: u64, output: &mut impl Write) -> io::Result<()> {
-    let mut drawer = Drawer {
-        random: Random::new(seed),
-        player: Player::new(Ruling::Document),
-        script: Vec::new(),
-        outcome: Vec::new(),
-        left: calls,
-        calm: false,
-    };
+    let mut drawer = Drawer::new(seed, calls);
     writeln!(output, "# drawn with seed {seed}, {calls} calls")?;
     while drawer.left > 0 {
         drawer.scene();
@@ -41,7 +34,27 @@ pub fn draw(seed: u64, calls: u64, output: &mut impl Write) -> io::Result<()> {
     Ok(())
 }
 
+/// Drawn scenes without end.
+pub fn scenes(seed: u64) -> impl Iterator<Item = Vec<u8>> {
+    let mut drawer = Drawer::new(seed, u64::MAX);
+    std::iter::from_fn(move || {
+        drawer.scene();
+        Some(std::mem::take(&mut drawer.script))
+    })
+}
+
 impl Drawer {
+    fn new(seed: u64, calls: u64) -> Self {
+        Drawer {
+            random: Random::new(seed),
+            player: Player::new(Ruling::Document),
+            script: Vec::new(),
+            outcome: Vec::new(),
+            left: calls,
+            calm: false,
+        }
+    }
+
     /// A few calls that belong together.
     fn scene(&mut self) {
         self.calm = self.random.one_in(3);

@@ -1,4 +1,4 @@
--- Rows of document 01's bench table that speak of the non-blocking driver, and document 01's walk, by computation.
+-- Document 01's walk, and a lost bus, by computation.
 use mathlib.Core.Path.{_≡_, refl}
 use mathlib.Core.List.{List, [], _∷_, map}
 use Prim.Native.Nat.{ℕ}
@@ -8,11 +8,11 @@ use Rattle.registers.specs.Words.{started}
 use Rattle.registers.specs.Flags.{takenAs, directionOf}
 use Rattle.access.specs.Access.{Access, read, write}
 use Rattle.answers.specs.Answers.{Said, says}
-use Rattle.ending.specs.Link.{fresh, oneMore, impossible}
-use Rattle.ending.specs.Call.{Call, Step, masterWrite, masterWriteRead, checkIsrFlags, getErrorsReset}
+use Rattle.ending.specs.Link.{fresh, impossible}
+use Rattle.ending.specs.Call.{Step, masterWriteRead, checkIsrFlags, getErrorsReset}
 use Rattle.ending.specs.Outcome.{outcome}
 use Rattle.ending.specs.Book.{Event}
-use Rattle.ending.specs.EqualEnding.{step, ran, seen}
+use Rattle.ending.specs.EqualEnding.{step, seen}
 
 -- the answers and the accesses of steps on a fresh link
 abbrev answers : List Step → List Said
@@ -23,21 +23,6 @@ accesses steps = map (λ (e : Event). e .accesses) (seen fresh steps)
 
 abbrev check : List ℕ → Step
 check words = step checkIsrFlags words 10
-
--- `master_write` to 0x50, 2 bytes, CR2 0
-write-two : accesses (step (masterWrite 0x50 (1 ∷ 2 ∷ [])) (0 ∷ 0 ∷ []) 10 ∷ []) ≡ (read CR2 0 ∷ read CR2 0 ∷ write CR2 0x020220A0 ∷ []) ∷ []
-unfolding seen outcome impossible started isSet get put
-write-two = refl
-
--- `master_write` of 0 bytes: 6; with START set: 1
-write-none : answers (step (masterWrite 0x50 []) (0 ∷ []) 10 ∷ step (masterWrite 0x50 []) (0x2000 ∷ []) 10 ∷ []) ≡ says 6 [] ∷ says 1 [] ∷ []
-unfolding seen outcome impossible isSet get
-write-none = refl
-
--- STOPF on a fresh link: 2, errors 1
-stop-fresh : answers (check (0x20 ∷ []) ∷ step getErrorsReset [] 0 ∷ []) ≡ says 2 [] ∷ says 0x45 (1 ∷ []) ∷ []
-unfolding seen outcome impossible oneMore takenAs isSet get
-stop-fresh = refl
 
 -- a lost bus is answered 4, and is not counted as an error
 lost-bus : answers (check (0x200 ∷ []) ∷ step getErrorsReset [] 0 ∷ []) ≡ says 4 [] ∷ says 0x45 (0 ∷ []) ∷ []
