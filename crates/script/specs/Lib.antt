@@ -1,0 +1,2 @@
+-- What the small functions of the parser compute.
+pub mod HexDigits

@@ -1,0 +1,91 @@
+// Lines of standard input.
+
+pub enum Line {
+    Text(usize),
+    TooLong,
+    End,
+}
+
+enum Next {
+    Byte(u8),
+    End,
+}
+
+// The next byte; the buffer is filled again when it is used up.
+fn next_byte(buffer: &mut [u8; 4096], at: &mut usize, end: &mut usize) -> Next {
+    let mut i = *at;
+    let mut n = *end;
+    if n <= i {
+        let got = libc::read(0, buffer);
+        n = io::count(got, buffer);
+        *end = n;
+        i = 0;
+    }
+    if i < n {
+        if i < 4096 {
+            *at = i + 1;
+            return Next::Byte(buffer[i]);
+        }
+    }
+    *at = i;
+    Next::End
+}
+
+// More characters than any slice has.
+const OVER: usize = 18_446_744_073_709_551_615;
+
+// Adds a byte to the line. Answers how many it has now.
+fn add(line: &mut [u8], count: usize, byte: u8) -> usize {
+    if count < line.len() {
+        line[count] = byte;
+        return count + 1;
+    }
+    OVER
+}
+
+// Of a comment only its first character counts.
+fn whole(line: &[u8], count: usize) -> Line {
+    if 0 < count {
+        if 0 < line.len() {
+            if line[0] == b'#' {
+                return Line::Text(1);
+            }
+        }
+    }
+    if line.len() < count {
+        return Line::TooLong;
+    }
+    Line::Text(count)
+}
+
+// A line that ends with the input; nothing at all is none.
+fn last(line: &[u8], count: usize) -> Line {
+    if count == 0 {
+        return Line::End;
+    }
+    whole(line, count)
+}
+
+// The next line, its newline not counted. The rest of one that is too long is passed over.
+pub fn next_line(
+    buffer: &mut [u8; 4096],
+    at: &mut usize,
+    end: &mut usize,
+    line: &mut [u8],
+) -> Line {
+    let mut count: usize = 0;
+    // No line is as long as this.
+    let mut turns: u64 = 18_446_744_073_709_551_615;
+    while 0 < turns {
+        let next = next_byte(buffer, at, end);
+        let Next::Byte(byte) = next else {
+            return last(line, count);
+        };
+        if byte == b'\n' {
+            return whole(line, count);
+        }
+        count = add(line, count, byte);
+        turns -= 1;
+    }
+    Line::End
+}
