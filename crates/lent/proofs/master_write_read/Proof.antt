@@ -4,17 +4,16 @@ use mir.Syntax.{w8, w16}
 use denote.Plain.{uint-vals, uint-tells, uint-lawful}
 use contract.Lifetimes.{Lfts, Shares}
 use denote.RattleType.{Denots}
-use denote.Laws.{Are, Ises, Spells, valss}
+use denote.Laws.{Spells}
 use denote.Builtin.{u8, u32}
 use denote.Signature.{Slot, typesAt}
 use denote.Slice.{slice-vals, shr-slice-tells, mut-slice-tells, shr-slice-lawful, mut-slice-lawful}
 use denote.Triple.End.{Kepts}
-use types.Kit.{Go, prop}
-use Rattle.nonblocking.proofs.Lending.{[], _∷_, List, refl, id⊢, URA, named, SProp, Memory, Routine, Heap, Calls, Loops, WpFn, Atoms, Fun, FmC, Given, Seq, _$_, !, move, RefT, tripleOf, Contract, Triple}
+use Rattle.nonblocking.proofs.Lending.{[], _∷_, List, refl, id⊢, URA, named, SProp, Memory, Routine, Heap, Calls, Loops, WpFn, Atoms, Fun, FmC, Given, _$_, !, move, RefT, tripleOf, Contract, Triple}
 use Rattle.nonblocking.proofs.Lending.{look, init, stop, hop, fld, from, load, addr, and-then, no-more, assigns, land, returns, enter, alloc1, alloc0, params1, pass1, pass0, free0, agg, whole, sub, look-in, givenOf}
 use Rattle.nonblocking.specs.declared.link.Link.{Link}
 use Rattle.lent.proofs.Loans.{Names, lifetimes, shares, references, pointers}
-use Rattle.lent.proofs.Thin.{others, Thin, Whole, Starts, at, enters, calls-lent, ends, passes, frees, thin-closes}
+use Rattle.lent.proofs.Thin.{others, Whole, Told, Runs, at, enters, points, calls-lent, ends, passes, frees, thin-closes}
 use Rattle.lent.proofs.parts.write_read as callee
 use Rattle.lent.proofs.parts.write_read.Symbol as symbol
 use Rattle.lent.proofs.parts.write_read.Met as known
@@ -44,20 +43,15 @@ module _ {M : Type 1} (𝓤 : URA M) (H : Heap 𝓤) (A : Atoms 𝓤) (W : Given
   abbrev to-callee : Names → Callee 𝓤 H A at-mem run .Ghost
   to-callee n = ((lifetimes n (κs .1), shares n (qs .1), tt, references (lk .ptr .0) (lk .ptr .1) n (lk .now) x, pointers (lk .ptr .0) (lk .ptr .1) (y .0 .4 .1)), tt)
 
-  walk : Are (typesAt ss κs) (Ises (typesAt ss κs)) x (valss (typesAt ss κs) (spelt κs) x) → Seq (Go {0}) W (Starts ss ks 𝓤 H A (f.clauses 𝓤 H A at-mem run) y []) (prop (WpFn 𝓤 H C Λ code.function (Whole ss ks 𝓤 H A (f.clauses 𝓤 H A at-mem run) .args y) (Whole ss ks 𝓤 H A (f.clauses 𝓤 H A at-mem run) .post y)))
+  walk : Told ss spelt κs x → Runs 𝓤 H A ss ks (f.clauses 𝓤 H A at-mem run) W y C Λ code.function
   walk are =
       enter ! C Λ code.function _ _ $
       alloc1 ! (λ l₀. alloc1 ! (λ l₁. alloc1 ! (λ l₂. alloc1 ! (λ l₃. alloc1 ! (λ l₄. alloc1 ! (λ l₅. alloc1 ! (λ l₆. alloc1 ! (λ l₇. alloc1 ! (λ l₈. alloc1 ! (λ l₉. alloc1 ! (λ l₁₀. alloc1 ! (λ l₁₁. alloc1 ! (λ l₁₂. alloc1 ! (λ l₁₃. alloc1 ! (λ l₁₄. alloc1 ! (λ l₁₅. alloc0 ! $ params1 ! $
       -- [the locals, the last one first; what the walk starts from]
       pass1 ! (init ! 28 refl (tt, tt)) $ pass1 ! (init ! 26 refl (uint-lawful 𝓤 H A W w16 .typed (x .0) _ (are .0) .0)) $ pass1 ! (init ! 24 refl (shr-slice-lawful 𝓤 H A W (named 1) (κs .1 .0) u8 .typed (x .1 .0) _ (are .1 .0) .0)) $ pass1 ! (init ! 22 refl (uint-lawful 𝓤 H A W w8 .typed (x .1 .1 .0) _ (are .1 .1 .0) .0)) $ pass1 ! (init ! 20 refl (shr-slice-lawful 𝓤 H A W (named 2) (κs .1 .1 .0) u32 .typed (x .1 .1 .1 .0) _ (are .1 .1 .1 .0) .0)) $ pass1 ! (init ! 18 refl (mut-slice-lawful 𝓤 H A W (named 3) (κs .1 .1 .1 .0) u32 .typed (x .1 .1 .1 .1 .0) _ (are .1 .1 .1 .1 .0) .0)) $ pass0 ! $
       -- the fields' addresses, and the log again
-      assigns ! (addr ! (from ! (hop ! (look ! 28 refl) (fld ! refl (stop !))))) (from ! (stop !)) (init ! 16 refl (tt, tt)) $
-      assigns ! (addr ! (from ! (hop ! (look ! 28 refl) (fld ! refl (stop !))))) (from ! (stop !)) (init ! 14 refl (tt, tt)) $
-      assigns ! (addr ! (from ! (hop ! (look ! 28 refl) (fld ! refl (stop !))))) (from ! (stop !)) (init ! 12 refl (tt, tt)) $
-      assigns ! (addr ! (from ! (hop ! (look ! 28 refl) (fld ! refl (stop !))))) (from ! (stop !)) (init ! 10 refl (tt, tt)) $
-      assigns ! (addr ! (from ! (hop ! (look ! 28 refl) (fld ! refl (stop !))))) (from ! (stop !)) (init ! 8 refl (tt, tt)) $
-      assigns ! (addr ! (from ! (hop ! (look ! 28 refl) (fld ! refl (stop !))))) (from ! (stop !)) (init ! 6 refl (tt, tt)) $
-      assigns ! (addr ! (from ! (hop ! (look ! 28 refl) (fld ! refl (stop !))))) (from ! (stop !)) (init ! 4 refl (tt, tt)) $
+      points ! 28 16 refl refl refl (tt, tt) $ points ! 28 14 refl refl refl (tt, tt) $ points ! 28 12 refl refl refl (tt, tt) $ points ! 28 10 refl refl refl (tt, tt) $
+      points ! 28 8 refl refl refl (tt, tt) $ points ! 28 6 refl refl refl (tt, tt) $ points ! 28 4 refl refl refl (tt, tt) $
       assigns ! (addr ! (from ! (fld ! refl (hop ! (look-in ! 18 (sub ! 0 refl (whole !))) (stop !))))) (from ! (stop !)) (init ! 2 refl (tt, tt)) $
       assigns ! (agg ! (and-then ! (load ! (from ! (stop !)) (look ! 2 refl)) (and-then ! (load ! (from ! (fld ! refl (stop !))) (look-in ! 18 (sub ! 1 refl (whole !)))) (no-more !)))) (from ! (stop !)) (init ! 0 refl (tt, (tt, (record { fits = are .1 .1 .1 .1 .0 .0 .1 .0 }, tt)))) $
       move ! (32 ∷ 33 ∷ 34 ∷ 35 ∷ 36 ∷ []) $ calls-lent ! fm ss ks (f.clauses 𝓤 H A at-mem run) y (Callee 𝓤 H A at-mem run) met to-callee (λ n. enters 𝓤 _) (λ n w. id⊢ 𝓤 _)

@@ -1,0 +1,48 @@
+// Numbers as text. Hex digits are capitals.
+use crate::buffer::Buffer;
+use crate::buffer::byte;
+use crate::buffer::text;
+
+// A hex digit: the lowest one of a number.
+pub fn digit(n: u32) -> u8 {
+    let d = (n % 16) as u8;
+    if d < 10 { d + 48 } else { d + 55 }
+}
+
+fn wide(b: u8) -> u32 {
+    b as u32
+}
+
+// Two digits, four, and eight.
+pub fn hex2(out: &mut Buffer, used: &mut usize, n: u32) {
+    byte(out, used, digit(n / 0x10));
+    byte(out, used, digit(n));
+}
+
+pub fn hex4(out: &mut Buffer, used: &mut usize, n: u32) {
+    hex2(out, used, n / 0x100);
+    hex2(out, used, n);
+}
+
+pub fn hex8(out: &mut Buffer, used: &mut usize, n: u32) {
+    hex4(out, used, n / 0x1_0000);
+    hex4(out, used, n);
+}
+
+pub fn decimal(out: &mut Buffer, used: &mut usize, n: u64) {
+    let mut digits = [0u8; 20];
+    let k = io::decimal(n, &mut digits);
+    text(out, used, &digits[..k]);
+}
+
+// Bytes as hex pairs, `-` for none.
+pub fn pairs(out: &mut Buffer, used: &mut usize, bytes: &[u8]) {
+    if bytes.len() == 0 {
+        byte(out, used, b'-');
+    }
+    let mut i: usize = 0;
+    while i < bytes.len() {
+        hex2(out, used, wide(bytes[i]));
+        i += 1;
+    }
+}
