@@ -1,10 +1,10 @@
 // The lines of the non-blocking driver.
 use crate::Call;
 use crate::copy::copy;
-use nonblocking::link::Called;
-use nonblocking::link::Link;
 use access::refused;
 use answers::Answer;
+use nonblocking::link::Called;
+use nonblocking::link::Link;
 use registers::config::Config;
 use script::Name;
 

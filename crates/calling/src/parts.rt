@@ -1,7 +1,7 @@
 // A parsed line as a call: its configuration built, its log sized, its values put into the link.
 use crate::Call;
-use nonblocking::link::Link;
 use answers::Answer;
+use nonblocking::link::Link;
 use registers::config::Config;
 use registers::config::Filtered;
 use registers::config::Setting;

@@ -1,5 +1,8 @@
 // The blocking calls that never wait.
 use crate::Call;
+use access::Report;
+use access::refused;
+use answers::Answer;
 use blocking::Event;
 use blocking::construct::i2c1;
 use blocking::interrupts::clear_irq;
@@ -7,9 +10,6 @@ use blocking::interrupts::listen;
 use blocking::interrupts::unlisten;
 use blocking::slave::slave_addressed;
 use blocking::slave::slave_sbc;
-use access::Report;
-use access::refused;
-use answers::Answer;
 use registers::config::Config;
 use script::Name;
 

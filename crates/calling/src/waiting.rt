@@ -1,5 +1,4 @@
 // The blocking calls that wait.
-use parked::Parked;
 use blocking::Ran;
 use blocking::master::read;
 use blocking::master::write;
@@ -8,6 +7,7 @@ use blocking::run::resume;
 use blocking::slave::slave_read;
 use blocking::slave::slave_wait_addressed;
 use blocking::slave::slave_write;
+use parked::Parked;
 use script::Name;
 
 // A call begun.

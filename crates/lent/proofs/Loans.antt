@@ -42,10 +42,32 @@ map-same : (l : List ℕ) → map (λ (v : ℕ). v) l ≡ l
 map-same [] = refl
 map-same (y ∷ l) = ap {B = List ℕ} (λ r. y ∷ r) (map-same l)
 
+-- the fields' offsets
+abbrev at-address : ℕ
+at-address = 0
+
+abbrev at-watchdog : ℕ
+at-watchdog = 2
+
+abbrev at-index : ℕ
+at-index = 8
+
+abbrev at-length : ℕ
+at-length = 16
+
+abbrev at-errors : ℕ
+at-errors = 24
+
+abbrev at-second : ℕ
+at-second = 32
+
+abbrev at-bytes : ℕ
+at-bytes = 40
+
 module _ (b o : ℕ) where
   -- the fields, each at its offset
   abbrev fields : Link → Fml
-  fields l = fsep (mem u16 .lies (l .address) b (o + 0)) (fsep (mem u16 .lies (l .watchdog) b (o + 2)) (fsep (mem usize .lies (l .index) b (o + 8)) (fsep (mem usize .lies (l .length) b (o + 16)) (fsep (mem u32 .lies (l .errors) b (o + 24)) (fsep (mem usize .lies (l .«length_write_read») b (o + 32)) (fsep (mem Bytes .lies (l .«data») b (o + 40)) ftrue))))))
+  fields l = fsep (mem u16 .lies (l .address) b (o + at-address)) (fsep (mem u16 .lies (l .watchdog) b (o + at-watchdog)) (fsep (mem usize .lies (l .index) b (o + at-index)) (fsep (mem usize .lies (l .length) b (o + at-length)) (fsep (mem u32 .lies (l .errors) b (o + at-errors)) (fsep (mem usize .lies (l .«length_write_read») b (o + at-second)) (fsep (mem Bytes .lies (l .«data») b (o + at-bytes)) ftrue))))))
 
   module _ {M : Type 1} (𝓤 : URA M) (H : Heap 𝓤) (A : Atoms 𝓤) (W : Given 𝓤 H A) where
     abbrev Back : SProp 𝓤
@@ -93,10 +115,10 @@ reference b o n x = record { ptr = (b, o); name = n .ghost; now = x }
 
 module _ (b o : ℕ) {X : Type 0} where
   abbrev pub references : Names → Link → X → RefT ℕ × (RefT ℕ × (RefT ℕ × (RefT ℕ × (RefT ℕ × (RefT ℕ × (RefT (List ℕ) × X))))))
-  references n l x = (reference b (o + 0) (n .address) (l .address), (reference b (o + 2) (n .watchdog) (l .watchdog), (reference b (o + 8) (n .index) (l .index), (reference b (o + 16) (n .length) (l .length), (reference b (o + 24) (n .errors) (l .errors), (reference b (o + 32) (n .second) (l .«length_write_read»), (reference b (o + 40) (n .bytes) (l .«data»), x)))))))
+  references n l x = (reference b (o + at-address) (n .address) (l .address), (reference b (o + at-watchdog) (n .watchdog) (l .watchdog), (reference b (o + at-index) (n .index) (l .index), (reference b (o + at-length) (n .length) (l .length), (reference b (o + at-errors) (n .errors) (l .errors), (reference b (o + at-second) (n .second) (l .«length_write_read»), (reference b (o + at-bytes) (n .bytes) (l .«data»), x)))))))
 
   abbrev pub pointers : X → List Val × (List Val × (List Val × (List Val × (List Val × (List Val × (List Val × X))))))
-  pointers x = (vptr b (o + 0) ∷ [], (vptr b (o + 2) ∷ [], (vptr b (o + 8) ∷ [], (vptr b (o + 16) ∷ [], (vptr b (o + 24) ∷ [], (vptr b (o + 32) ∷ [], (vptr b (o + 40) ∷ [], x)))))))
+  pointers x = (vptr b (o + at-address) ∷ [], (vptr b (o + at-watchdog) ∷ [], (vptr b (o + at-index) ∷ [], (vptr b (o + at-length) ∷ [], (vptr b (o + at-errors) ∷ [], (vptr b (o + at-second) ∷ [], (vptr b (o + at-bytes) ∷ [], x)))))))
 
 -- the last values: of the fields, and of what follows them; and the link at them
 abbrev pub Lasts : Type 0 → Type 0
@@ -113,7 +135,7 @@ abbrev lent-at : (R : RattleType) → Lifetime → Name → ℕ → ℕ → R .D
 lent-at R ℓ n b o x = MutRef ℓ (n .lft ∷ []) R .own (reference b o n x) (vptr b o ∷ [])
 
 abbrev pub Given-out : ℕ → ℕ → Names → Link → Fml → Fml
-Given-out b o n l F = fsep (lent-at u16 (named 0) (n .address) b (o + 0) (l .address)) (fsep (lent-at u16 (named 1) (n .watchdog) b (o + 2) (l .watchdog)) (fsep (lent-at usize (named 2) (n .index) b (o + 8) (l .index)) (fsep (lent-at usize (named 3) (n .length) b (o + 16) (l .length)) (fsep (lent-at u32 (named 4) (n .errors) b (o + 24) (l .errors)) (fsep (lent-at usize (named 5) (n .second) b (o + 32) (l .«length_write_read»)) (fsep (lent-at Bytes (named 6) (n .bytes) b (o + 40) (l .«data»)) F))))))
+Given-out b o n l F = fsep (lent-at u16 (named 0) (n .address) b (o + at-address) (l .address)) (fsep (lent-at u16 (named 1) (n .watchdog) b (o + at-watchdog) (l .watchdog)) (fsep (lent-at usize (named 2) (n .index) b (o + at-index) (l .index)) (fsep (lent-at usize (named 3) (n .length) b (o + at-length) (l .length)) (fsep (lent-at u32 (named 4) (n .errors) b (o + at-errors) (l .errors)) (fsep (lent-at usize (named 5) (n .second) b (o + at-second) (l .«length_write_read»)) (fsep (lent-at Bytes (named 6) (n .bytes) b (o + at-bytes) (l .«data»)) F))))))
 
 -- what is said of the fields at exit, and F beside it
 abbrev pub Ended-at : Names → Link → Fml → Fml
@@ -132,7 +154,7 @@ module _ {M : Type 1} (𝓤 : URA M) (H : Heap 𝓤) (A : Atoms 𝓤) where
 
   -- what the walk keeps meanwhile: the lender's part of each loan, the way back to the struct, and the borrow, open
   abbrev pub Kept-back : ℕ → ℕ → Lft → Share → GName → Names → Link → Item 𝓤
-  Kept-back b o κ q γ n l = lender u16 (n .address) b (o + 0) ⊛ lender u16 (n .watchdog) b (o + 2) ⊛ lender usize (n .index) b (o + 8) ⊛ lender usize (n .length) b (o + 16) ⊛ lender u32 (n .errors) b (o + 24) ⊛ lender usize (n .second) b (o + 32) ⊛ lender Bytes (n .bytes) b (o + 40)
+  Kept-back b o κ q γ n l = lender u16 (n .address) b (o + at-address) ⊛ lender u16 (n .watchdog) b (o + at-watchdog) ⊛ lender usize (n .index) b (o + at-index) ⊛ lender usize (n .length) b (o + at-length) ⊛ lender u32 (n .errors) b (o + at-errors) ⊛ lender usize (n .second) b (o + at-second) ⊛ lender Bytes (n .bytes) b (o + at-bytes)
       ⊛ raw (PartsBack 𝓤 H A fullShare (L.struct .name) members b o) ⊛ ‵ (fobor κ q (Body (mem L.the-row) b o γ)) ⊛ ‵ (fobs γ (L.the-row .coded .code l)) ⊛ ‵ (fauth γ (L.the-row .coded .code l))
 
 module _ {M : Type 1} {𝓤 : URA M} {H : Heap 𝓤} {A : Atoms 𝓤} {K : Type 0} {W : Given 𝓤 H A} {Γ : List (Item 𝓤)} {G : Goal 𝓤 H} where
@@ -164,26 +186,26 @@ module _ {M : Type 1} {𝓤 : URA M} {H : Heap 𝓤} {A : Atoms 𝓤} {K : Type 
       fsplit t $ move t (1 ∷ []) $ fsplit t $ move t (1 ∷ []) $ fsplit t $ move t (1 ∷ []) $ fsplit t $ move t (1 ∷ []) $ fsplit t $ move t (1 ∷ []) $ fsplit t $ move t (1 ∷ []) $ fsplit t $ move t (1 ∷ []) $ drop t $
       -- [the fields, the last one first; the way back; the open borrow; obs; auth; T; F]
       move t (7 ∷ 8 ∷ 9 ∷ 10 ∷ []) $ group t 4 $ move t (1 ∷ 9 ∷ 8 ∷ 0 ∷ []) $
-      lend t z Bytes (named 6) (l .«data») b (o + 40) (λ n₆. move t (3 ∷ []) $
-      lend t z usize (named 5) (l .«length_write_read») b (o + 32) (λ n₅. move t (3 ∷ []) $
-      lend t z u32 (named 4) (l .errors) b (o + 24) (λ n₄. move t (3 ∷ []) $
-      lend t z usize (named 3) (l .length) b (o + 16) (λ n₃. move t (3 ∷ []) $
-      lend t z usize (named 2) (l .index) b (o + 8) (λ n₂. move t (3 ∷ []) $
-      lend t z u16 (named 1) (l .watchdog) b (o + 2) (λ n₁. move t (3 ∷ []) $
-      lend t z u16 (named 0) (l .address) b (o + 0) (λ n₀. move t (1 ∷ 0 ∷ []) $ join t $
+      lend t z Bytes (named 6) (l .«data») b (o + at-bytes) (λ n₆. move t (3 ∷ []) $
+      lend t z usize (named 5) (l .«length_write_read») b (o + at-second) (λ n₅. move t (3 ∷ []) $
+      lend t z u32 (named 4) (l .errors) b (o + at-errors) (λ n₄. move t (3 ∷ []) $
+      lend t z usize (named 3) (l .length) b (o + at-length) (λ n₃. move t (3 ∷ []) $
+      lend t z usize (named 2) (l .index) b (o + at-index) (λ n₂. move t (3 ∷ []) $
+      lend t z u16 (named 1) (l .watchdog) b (o + at-watchdog) (λ n₁. move t (3 ∷ []) $
+      lend t z u16 (named 0) (l .address) b (o + at-address) (λ n₀. move t (1 ∷ 0 ∷ []) $ join t $
       k (record { address = n₀; watchdog = n₁; index = n₂; length = n₃; errors = n₄; second = n₅; bytes = n₆ }))))))))
 
   pub comes-back : K → Soaks G → {κ : Lft} {q : Share} {γ : GName} (n : Names) (l l′ : Link) (b o : ℕ) {F : Fml} {T : Item 𝓤}
       → Step K W (‵ (fres γ (L.the-row .coded .code l′)) ∷ ‵ (flft κ q) ∷ T ∷ ‵ F ∷ Γ) G (Tokens 𝓤 H A n T ∷ ‵ (Ended-at n l′ F) ∷ Kept-back 𝓤 H A b o κ q γ n l ∷ Γ) G
   comes-back t z {γ = γ} n l l′ b o =
       step (λ s.
-      back t z u16 (l′ .address) b (o + 0) (n .address) $ move t (1 ∷ 2 ∷ 3 ∷ []) $
-      back t z u16 (l′ .watchdog) b (o + 2) (n .watchdog) $ move t (1 ∷ 2 ∷ 3 ∷ []) $
-      back t z usize (l′ .index) b (o + 8) (n .index) $ move t (1 ∷ 2 ∷ 3 ∷ []) $
-      back t z usize (l′ .length) b (o + 16) (n .length) $ move t (1 ∷ 2 ∷ 3 ∷ []) $
-      back t z u32 (l′ .errors) b (o + 24) (n .errors) $ move t (1 ∷ 2 ∷ 3 ∷ []) $
-      back t z usize (l′ .«length_write_read») b (o + 32) (n .second) $ move t (1 ∷ 2 ∷ 3 ∷ []) $
-      back t z Bytes (l′ .«data») b (o + 40) (n .bytes) $
+      back t z u16 (l′ .address) b (o + at-address) (n .address) $ move t (1 ∷ 2 ∷ 3 ∷ []) $
+      back t z u16 (l′ .watchdog) b (o + at-watchdog) (n .watchdog) $ move t (1 ∷ 2 ∷ 3 ∷ []) $
+      back t z usize (l′ .index) b (o + at-index) (n .index) $ move t (1 ∷ 2 ∷ 3 ∷ []) $
+      back t z usize (l′ .length) b (o + at-length) (n .length) $ move t (1 ∷ 2 ∷ 3 ∷ []) $
+      back t z u32 (l′ .errors) b (o + at-errors) (n .errors) $ move t (1 ∷ 2 ∷ 3 ∷ []) $
+      back t z usize (l′ .«length_write_read») b (o + at-second) (n .second) $ move t (1 ∷ 2 ∷ 3 ∷ []) $
+      back t z Bytes (l′ .«data») b (o + at-bytes) (n .bytes) $
       -- [the last field; T; F; the rest of what was kept back; the other fields, the last one first]
       nothing t $ move t (1 ∷ 0 ∷ []) $ fjoin t $ move t (4 ∷ 0 ∷ []) $ fjoin t $ move t (4 ∷ 0 ∷ []) $ fjoin t $ move t (4 ∷ 0 ∷ []) $ fjoin t $ move t (4 ∷ 0 ∷ []) $ fjoin t $ move t (4 ∷ 0 ∷ []) $ fjoin t $ move t (4 ∷ 0 ∷ []) $ fjoin t $
       move t (3 ∷ []) $ split t $ move t (0 ∷ 2 ∷ []) $ use2 W (‵ (mem L.the-row .lies l′ b o)) (link-whole b o 𝓤 H A W l′) $

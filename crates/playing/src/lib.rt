@@ -1,6 +1,6 @@
 // A script played through both drivers: what is kept from line to line, and the outcome of each line.
-use parked::Parked;
 use nonblocking::link::Link;
+use parked::Parked;
 
 mod line;
 mod outcome;

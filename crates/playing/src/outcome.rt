@@ -1,4 +1,6 @@
 // The lines of an outcome.
+use access::Report;
+use answers::Answer;
 use calling::settings::Told;
 use nonblocking::link::Link;
 use print::answer::accesses;
@@ -12,8 +14,6 @@ use print::buffer::text;
 use print::number::decimal;
 use print::number::hex4;
 use print::number::pairs;
-use access::Report;
-use answers::Answer;
 
 pub(crate) fn line_number(out: &mut Buffer, used: &mut usize, number: u64) {
     text(out, used, b"> ");

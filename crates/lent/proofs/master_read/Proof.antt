@@ -9,7 +9,7 @@ use denote.Builtin.{u32}
 use denote.Signature.{Slot, typesAt}
 use denote.Slice.{slice-vals, shr-slice-tells, mut-slice-tells, shr-slice-lawful, mut-slice-lawful}
 use denote.Triple.End.{Kepts}
-use Rattle.nonblocking.proofs.Lending.{[], _∷_, List, refl, id⊢, URA, named, SProp, Memory, Routine, Heap, Calls, Loops, WpFn, Atoms, Fun, FmC, Given, _$_, !, move, RefT, tripleOf, Contract, Triple}
+use Rattle.nonblocking.proofs.Lending.{[], _∷_, List, refl, id⊢, URA, named, SProp, Memory, Routine, Heap, Calls, Loops, Atoms, Fun, FmC, Given, _$_, !, move, RefT, tripleOf, Contract, Triple}
 use Rattle.nonblocking.proofs.Lending.{look, init, stop, hop, fld, from, load, addr, and-then, no-more, assigns, land, returns, enter, alloc1, alloc0, params1, pass1, pass0, free0, agg, whole, sub, look-in, givenOf}
 use Rattle.nonblocking.specs.declared.link.Link.{Link}
 use Rattle.lent.proofs.Loans.{Names, lifetimes, shares, references, pointers}
