@@ -3,7 +3,6 @@ use nonblocking::link::Link;
 use parked::Parked;
 
 mod line;
-mod outcome;
 pub mod run;
 mod waiting;
 

@@ -3,24 +3,29 @@ use crate::Bytes;
 use crate::Kept;
 use crate::Log;
 use crate::Words;
-use crate::outcome::bad_line;
-use crate::outcome::link_report;
-use crate::outcome::report;
-use crate::outcome::told_line;
 use crate::waiting::waiting_call;
+use answers::Answer;
 use calling::Call;
 use calling::link::link_call;
 use calling::parts::call_of;
 use calling::parts::configuration;
 use calling::parts::places;
 use calling::parts::set;
+use calling::settings::Told;
 use calling::settings::config_call;
 use calling::unwaited::unwaited_call;
 use nonblocking::link::Called;
 use nonblocking::link::Link;
+use print::answer::number;
+use print::answer::word;
 use print::buffer::Buffer;
+use print::outcome::bad_line;
+use print::outcome::link_report;
+use print::outcome::plain;
+use print::outcome::report;
 use registers::config::Config;
 use script::Name;
+use script::Parsed;
 use script::parse::parse;
 
 // What plays a line.
@@ -97,6 +102,10 @@ fn with(kept: Kept, link: Link) -> Kept {
     }
 }
 
+fn values_put(kept: Kept, parsed: Parsed) -> Kept {
+    with(kept, set(kept.link, parsed))
+}
+
 fn play_unwaited(
     call: Call,
     config: Config,
@@ -108,21 +117,35 @@ fn play_unwaited(
     report(out, used, unwaited_call(call, config, words, log), log);
 }
 
-// A line that keeps nothing.
+// What a call of the configuration tells.
+fn told_line(out: &mut Buffer, used: &mut usize, told: Told) {
+    match told {
+        Told::Word(n) => word(out, used, b'V', n),
+        Told::Period(n) => number(out, used, b'P', n as u64),
+        Told::BadFilter => plain(out, used, Answer::BadFilter),
+        Told::NoRate => plain(out, used, Answer::NoRate),
+    }
+}
+
+// A line that does not wait.
 fn play_other(
+    link: Link,
+    group: Group,
     call: Call,
     config: Config,
-    group: Group,
+    first: &Bytes,
     words: &[u32],
     log: &mut [u32],
     out: &mut Buffer,
     used: &mut usize,
-) {
+) -> Link {
     match group {
+        Group::NonBlocking => return play_link(link, call, config, first, words, log, out, used),
         Group::Unwaited => play_unwaited(call, config, words, log, out, used),
         Group::Configuration => told_line(out, used, config_call(call, config)),
         _ => bad_line(out, used),
     }
+    link
 }
 
 // A call over its words and its log.
@@ -140,28 +163,13 @@ fn play(
     used: &mut usize,
 ) -> Kept {
     let group = group_of(call);
-    match group {
-        Group::NonBlocking => with(
-            kept,
-            play_link(kept.link, call, config, first, words, log, out, used),
-        ),
-        Group::Waiting => waiting_call(
-            kept,
-            call,
-            first,
-            second,
-            words,
-            log,
-            send,
-            recv,
-            out,
-            used,
-        ),
-        _ => {
-            play_other(call, config, group, words, log, out, used);
-            kept
-        }
+    if let Group::Waiting = group {
+        return waiting_call(kept, call, first, second, words, log, send, recv, out, used);
     }
+    with(
+        kept,
+        play_other(kept.link, group, call, config, first, words, log, out, used),
+    )
 }
 
 // So many of the words and places of the log lent.
@@ -216,7 +224,7 @@ pub(crate) fn play_line(
 ) -> Kept {
     let parsed = parse(line, first, second, words);
     lend(
-        with(kept, set(kept.link, parsed)),
+        values_put(kept, parsed),
         call_of(parsed),
         configuration(parsed),
         parsed.words,

@@ -5,8 +5,6 @@ use crate::Log;
 use crate::Text;
 use crate::Words;
 use crate::line::play_line;
-use crate::outcome::bad_line;
-use crate::outcome::line_number;
 use nonblocking::link::Link;
 use parked::End;
 use parked::Kind;
@@ -14,6 +12,8 @@ use parked::Parked;
 use parked::Phase;
 use print::buffer::Buffer;
 use print::buffer::flush;
+use print::outcome::bad_line;
+use print::outcome::line_number;
 use script::input::Line;
 use script::input::next_line;
 

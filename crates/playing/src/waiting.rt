@@ -1,8 +1,6 @@
 // The blocking calls that wait.
 use crate::Bytes;
 use crate::Kept;
-use crate::outcome::buffer_line;
-use crate::outcome::plain;
 use blocking::Ran;
 use calling::Call;
 use calling::copy::copy;
@@ -10,6 +8,8 @@ use calling::waiting::waiting_run;
 use parked::Parked;
 use print::answer::accesses;
 use print::buffer::Buffer;
+use print::outcome::buffer_line;
+use print::outcome::plain;
 use script::Name;
 
 fn narrow(n: u32) -> u8 {

@@ -2,3 +2,4 @@
 pub mod answer;
 pub mod buffer;
 pub mod number;
+pub mod outcome;

@@ -1,10 +1,15 @@
 // Numbers as text. Hex digits are capitals.
+ghost use mathlib.Core.Path.{_≡_};
+ghost use Prim.Native.Nat.{_%_};
+ghost use Rattle.print.specs.Digit.{capital};
 use crate::buffer::Buffer;
 use crate::buffer::byte;
 use crate::buffer::text;
 
 // A hex digit: the lowest one of a number.
-pub fn digit(n: u32) -> u8 {
+pub fn digit(n: u32) -> u8
+    ensures { λ r. ⌜ r ≡ capital (n % 16) ⌝ }
+{
     let d = (n % 16) as u8;
     if d < 10 { d + 48 } else { d + 55 }
 }

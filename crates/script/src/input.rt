@@ -6,13 +6,14 @@ pub enum Line {
     End,
 }
 
-enum Next {
+// What the input has next.
+pub enum Next {
     Byte(u8),
     End,
 }
 
 // The next byte; the buffer is filled again when it is used up.
-fn next_byte(buffer: &mut [u8; 4096], at: &mut usize, end: &mut usize) -> Next {
+pub fn next_byte(buffer: &mut [u8; 4096], at: &mut usize, end: &mut usize) -> Next {
     let mut i = *at;
     let mut n = *end;
     if n <= i {

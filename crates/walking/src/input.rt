@@ -1,35 +1,12 @@
 // Words from standard input, a line at a time.
 ghost use mathlib.Core.Path.{_≡_};
 ghost use Prim.Native.Nat.{_≤_};
-
-pub enum Next {
-    Byte(u8),
-    End,
-}
+use script::input::Next;
+use script::input::next_byte;
 
 pub enum Line {
     Word(u32),
     Other,
-}
-
-// The next byte; the buffer is filled again when it is used up.
-fn next_byte(buffer: &mut [u8; 4096], at: &mut usize, end: &mut usize) -> Next {
-    let mut i = *at;
-    let mut n = *end;
-    if n <= i {
-        let got = libc::read(0, buffer);
-        n = io::count(got, buffer);
-        *end = n;
-        i = 0;
-    }
-    if i < n {
-        if i < 4096 {
-            *at = i + 1;
-            return Next::Byte(buffer[i]);
-        }
-    }
-    *at = i;
-    Next::End
 }
 
 // The value of a hex digit, 16 for another byte.

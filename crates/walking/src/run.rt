@@ -1,11 +1,13 @@
 // A walk: `master_write_read` to 0x50 with 01 40 and read length 2, and then checks while words are left.
 use crate::input::Line;
 use crate::input::next_line;
-use crate::output::print_accesses;
-use crate::output::print_answer;
 use answers::Answer;
 use nonblocking::link::Called;
 use nonblocking::link::Link;
+use print::answer::accesses;
+use print::answer::answer as answer_line;
+use print::buffer::Buffer;
+use print::buffer::flush;
 
 // The words read ahead: a call takes at most three.
 pub struct Ahead {
@@ -67,31 +69,34 @@ fn without(ahead: Ahead, taken: usize) -> Ahead {
 }
 
 // A check over the words read ahead, printed.
-fn step(link: Link, words: [u32; 3], count: usize) -> Called {
+fn step(link: Link, words: [u32; 3], count: usize, out: &mut Buffer, used: &mut usize) -> Called {
     let mut log = [0u32; 10];
     if count < 3 {
         let called = link.check_isr_flags(&words[..count], &mut log);
-        return printed(called, &log);
+        return printed(called, &log, out, used);
     }
     let called = link.check_isr_flags(&words, &mut log);
-    printed(called, &log)
+    printed(called, &log, out, used)
 }
 
-fn start(link: Link, words: [u32; 3], count: usize) -> Called {
+fn start(link: Link, words: [u32; 3], count: usize, out: &mut Buffer, used: &mut usize) -> Called {
     let mut log = [0u32; 10];
     let bytes = [0x01u8, 0x40];
     if count < 3 {
         let called = link.master_write_read(0x50, &bytes, 2, &words[..count], &mut log);
-        return printed(called, &log);
+        return printed(called, &log, out, used);
     }
     let called = link.master_write_read(0x50, &bytes, 2, &words, &mut log);
-    printed(called, &log)
+    printed(called, &log, out, used)
 }
 
-fn printed(called: Called, log: &[u32; 10]) -> Called {
+fn printed(called: Called, log: &[u32; 10], out: &mut Buffer, used: &mut usize) -> Called {
     let report = called.report;
-    print_accesses(log, report.logged);
-    print_answer(called);
+    let answer = report.answer;
+    let link = called.link;
+    let data = link.data;
+    accesses(out, used, log, report.logged);
+    answer_line(out, used, answer, &data);
     called
 }
 
@@ -105,8 +110,13 @@ fn out_of_words(called: Called) -> bool {
     }
 }
 
-// One walk, from the input's next byte on. What is read past the walk's last line stays in the buffer.
-pub fn run(buffer: &mut [u8; 4096], at: &mut usize, end: &mut usize) {
+fn walk(
+    buffer: &mut [u8; 4096],
+    at: &mut usize,
+    end: &mut usize,
+    out: &mut Buffer,
+    used: &mut usize,
+) {
     let none = Ahead {
         words: [0u32; 3],
         count: 0,
@@ -114,7 +124,7 @@ pub fn run(buffer: &mut [u8; 4096], at: &mut usize, end: &mut usize) {
     };
     let mut ahead = fill(none, buffer, at, end);
     let first = ahead.words;
-    let mut called = start(Link::new(), first, ahead.count);
+    let mut called = start(Link::new(), first, ahead.count, out, used);
     // No input is as long as this.
     let mut turns: u64 = 18_446_744_073_709_551_615;
     while 0 < turns {
@@ -128,7 +138,15 @@ pub fn run(buffer: &mut [u8; 4096], at: &mut usize, end: &mut usize) {
         }
         let link = called.link;
         let words = ahead.words;
-        called = step(link, words, ahead.count);
+        called = step(link, words, ahead.count, out, used);
         turns -= 1;
     }
+}
+
+// One walk, from the input's next byte on. What is read past the walk's last line stays in the buffer.
+pub fn run(buffer: &mut [u8; 4096], at: &mut usize, end: &mut usize) {
+    let mut out = io::large_buffer();
+    let mut used: usize = 0;
+    walk(buffer, at, end, &mut out, &mut used);
+    flush(&mut out, &mut used);
 }

@@ -1,38 +1,35 @@
 // The lines of an outcome.
+use crate::answer::accesses;
+use crate::answer::answer as answer_line;
+use crate::buffer::Buffer;
+use crate::buffer::byte;
+use crate::buffer::line_end;
+use crate::buffer::text;
+use crate::number::decimal;
+use crate::number::hex4;
+use crate::number::pairs;
 use access::Report;
 use answers::Answer;
-use calling::settings::Told;
 use nonblocking::link::Link;
-use print::answer::accesses;
-use print::answer::answer as answer_line;
-use print::answer::number;
-use print::answer::word;
-use print::buffer::Buffer;
-use print::buffer::byte;
-use print::buffer::line_end;
-use print::buffer::text;
-use print::number::decimal;
-use print::number::hex4;
-use print::number::pairs;
 
-pub(crate) fn line_number(out: &mut Buffer, used: &mut usize, number: u64) {
+pub fn line_number(out: &mut Buffer, used: &mut usize, number: u64) {
     text(out, used, b"> ");
     decimal(out, used, number);
     line_end(out, used);
 }
 
-pub(crate) fn bad_line(out: &mut Buffer, used: &mut usize) {
+pub fn bad_line(out: &mut Buffer, used: &mut usize) {
     text(out, used, b"? bad line\n");
 }
 
 // An answer that shows no bytes.
-pub(crate) fn plain(out: &mut Buffer, used: &mut usize, answer: Answer) {
+pub fn plain(out: &mut Buffer, used: &mut usize, answer: Answer) {
     let none = [0u8; 0];
     answer_line(out, used, answer, &none);
 }
 
 // The accesses and the answer of a call that keeps nothing.
-pub(crate) fn report(out: &mut Buffer, used: &mut usize, report: Report, log: &[u32]) {
+pub fn report(out: &mut Buffer, used: &mut usize, report: Report, log: &[u32]) {
     accesses(out, used, log, report.logged);
     let answer = report.answer;
     plain(out, used, answer);
@@ -62,13 +59,7 @@ fn link_line(out: &mut Buffer, used: &mut usize, link: Link) {
 }
 
 // The accesses and the answer of a call of the non-blocking driver, and the link after it.
-pub(crate) fn link_report(
-    out: &mut Buffer,
-    used: &mut usize,
-    report: Report,
-    link: Link,
-    log: &[u32],
-) {
+pub fn link_report(out: &mut Buffer, used: &mut usize, report: Report, link: Link, log: &[u32]) {
     accesses(out, used, log, report.logged);
     let answer = report.answer;
     let data = link.data;
@@ -77,18 +68,8 @@ pub(crate) fn link_report(
 }
 
 // The recv slice.
-pub(crate) fn buffer_line(out: &mut Buffer, used: &mut usize, recv: &[u8]) {
+pub fn buffer_line(out: &mut Buffer, used: &mut usize, recv: &[u8]) {
     text(out, used, b"B ");
     pairs(out, used, recv);
     line_end(out, used);
-}
-
-// What a call of the configuration tells.
-pub(crate) fn told_line(out: &mut Buffer, used: &mut usize, told: Told) {
-    match told {
-        Told::Word(n) => word(out, used, b'V', n),
-        Told::Period(n) => number(out, used, b'P', n as u64),
-        Told::BadFilter => plain(out, used, Answer::BadFilter),
-        Told::NoRate => plain(out, used, Answer::NoRate),
-    }
 }

@@ -1,14 +1,14 @@
--- `walking::run::run` is safe and ends.
-use Prim.Native.Nat.{ℕ, _+_, _-_, _≤_, _<_}
+-- `walking::run::walk` is safe and ends.
+use Prim.Native.Nat.{_≤_}
 use borrow.Author.Needs.{needs}
-use Rattle.walking.proofs.run.run.Statement.{statement}
-use Rattle.walking.proofs.run.run.Tie as tie
+use Rattle.walking.proofs.run.walk.Statement.{statement}
+use Rattle.walking.proofs.run.walk.Tie as tie
 
 abbrev Inv-loop : tie.InvT-loop
-Inv-loop buffer₀ at₀ end₀ ahead₀ called₀ turns₀ buffer at end ahead called turns = 0 ≤ turns
+Inv-loop buffer₀ at₀ end₀ out₀ used₀ ahead₀ called₀ turns₀ buffer at end out used ahead called turns = 0 ≤ turns
 
 abbrev μ-loop : tie.MeasureT-loop
-μ-loop buffer₀ at₀ end₀ ahead₀ called₀ turns₀ buffer at end ahead called turns = turns
+μ-loop buffer₀ at₀ end₀ out₀ used₀ ahead₀ called₀ turns₀ buffer at end out used ahead called turns = turns
 
 fill-requires : tie.Need-fill-requires Inv-loop μ-loop
 fill-requires c κs = search needs
@@ -52,8 +52,8 @@ loop-again c = search needs
 returns-3 : tie.Need-returns-3 Inv-loop μ-loop
 returns-3 c = search needs
 
-pub run-spec : {M : Type 1} → statement M
-run-spec =
+pub walk-spec : {M : Type 1} → statement M
+walk-spec =
     tie.close
     (tie.spec
     Inv-loop
