@@ -1,8 +1,8 @@
--- The walk of an exported function: it hands its parameters but the last on to a callee that returns a report, and gives the report and the last parameter, `out`, to `out::put`.
+-- The walk of an exported function: it hands its parameters but the last on to a callee that returns a report, and gives the report and the last parameter, `out`, to `flat::out::put`.
 --     front, last          of the lifetimes and of the shares: all but the last, the last
 --     stars                a list of formulas, all of them together; `owned-list`, `last-list` say what the parameters' types own, and what is said of them at exit
 --     calls-on             the call of the callee
---     calls-put            the call of `out::put`
+--     calls-put            the call of `flat::out::put`
 --     fins                 the end, once the locals are freed
 --     relay-closes         a walk that knows of the two callees that they meet their contracts becomes the function's statement
 use mathlib.Core.List.{_++_}
@@ -36,9 +36,9 @@ use Rattle.lent.proofs.Thin.{enters}
 use Rattle.access.specs.declared.Report.{Report}
 use Rattle.access.proofs.Report as P
 use Rattle.access.proofs.Report.Laws as P′
-use Rattle.ffi.specs.Out.{flat as six}
-use Rattle.ffi.proofs.out.put as put
-use Rattle.ffi.proofs.out.put.Symbol as symbol
+use Rattle.flat.specs.Out.{flat as six}
+use Rattle.flat.proofs.out.put as put
+use Rattle.flat.proofs.out.put.Symbol as symbol
 
 -- ---- all but the last, and the last
 abbrev pub front : (n : ℕ) → Lfts (suc n) → Lfts n

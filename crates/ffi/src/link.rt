@@ -5,8 +5,8 @@ ghost use lib.ListN.{length as size};
 ghost use Rattle.ending.specs.Call.{checkIsrFlags, masterWrite, masterWriteRead, masterRead, slaveWrite, executeWatchdog, getErrorsReset};
 ghost use Rattle.ending.specs.Outcome.{outcome, Matches};
 ghost use Rattle.nonblocking.specs.Model.{model};
-ghost use Rattle.ffi.specs.Out.{Out};
-use crate::out::put;
+ghost use Rattle.flat.specs.Out.{Out};
+use flat::out::put;
 use nonblocking::link::Link;
 
 #[no_mangle]

@@ -1,7 +1,7 @@
--- `ffi::out::put` meets its contract: each arm fills in the numbers of its answer.
+-- `flat::out::put` meets its contract: each arm fills in the numbers of its answer.
 use borrow.Author.Needs.{needs}
-use Rattle.ffi.proofs.out.put.Statement.{statement}
-use Rattle.ffi.proofs.out.put.Tie as tie
+use Rattle.flat.proofs.out.put.Statement.{statement}
+use Rattle.flat.proofs.out.put.Tie as tie
 
 pub put-spec : {M : Type 1} → statement M
 put-spec =

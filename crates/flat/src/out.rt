@@ -1,7 +1,7 @@
 // An answer as six numbers.
 ghost use mathlib.Core.Path.{_≡_};
 ghost use mathlib.Core.List.{[], _∷_};
-ghost use Rattle.ffi.specs.Out.{flat};
+ghost use Rattle.flat.specs.Out.{flat};
 use access::Report;
 use answers::Answer;
 
