@@ -1,5 +1,6 @@
-//! `boundary SCRIPT OUTCOMES`: plays a script through the C functions of the
-//! library and compares every outcome with the given ones, to the byte.
+//! Plays a script through the C functions of the library and compares every
+//! outcome to the byte: with given outcomes, or, for drawn calls, with what the
+//! original Rust gives.
 
 mod blocking;
 mod functions;
@@ -9,20 +10,22 @@ mod player;
 mod settings;
 
 use oracle::compare::differences;
+use oracle::draw::draw;
+use oracle::player::{play, Ruling};
 use oracle::reader::{is_skipped, next_line};
 use player::Player;
 use std::collections::HashSet;
-use std::fs::{read, File};
-use std::io::{self, stdout, BufReader};
+use std::fs::read;
+use std::io::{self, stdout};
 use std::process::ExitCode;
+
+const USAGE: &str = "usage: boundary list SCRIPT OUTCOMES
+       boundary draw SEED CALLS";
 
 fn main() -> ExitCode {
     let arguments: Vec<String> = std::env::args().skip(1).collect();
-    let compared = match &arguments[..] {
-        [script, outcomes] => compare(script, outcomes),
-        _ => Err(io::Error::other("usage: boundary SCRIPT OUTCOMES")),
-    };
-    match compared {
+    let arguments: Vec<&str> = arguments.iter().map(String::as_str).collect();
+    match run(&arguments) {
         Ok(true) => ExitCode::SUCCESS,
         Ok(false) => ExitCode::from(1),
         Err(error) => {
@@ -33,13 +36,26 @@ fn main() -> ExitCode {
 }
 
 /// True where the outcomes are the same.
-fn compare(script: &str, outcomes: &str) -> io::Result<bool> {
-    let mut input = BufReader::new(File::open(script)?);
+fn run(arguments: &[&str]) -> io::Result<bool> {
+    match arguments {
+        ["list", script, outcomes] => compare(&read(script)?, &read(outcomes)?),
+        ["draw", seed, calls] => {
+            let number = |text: &str| text.parse().map_err(|_| io::Error::other(USAGE));
+            let (mut script, mut outcomes) = (Vec::new(), Vec::new());
+            draw(number(seed)?, number(calls)?, &mut script)?;
+            play(Ruling::Document, &script[..], &mut outcomes)?;
+            compare(&script, &outcomes)
+        }
+        _ => Err(io::Error::other(USAGE)),
+    }
+}
+
+fn compare(mut script: &[u8], outcomes: &[u8]) -> io::Result<bool> {
     let (mut player, mut ours) = (Player::new(), Vec::new());
     // The script with empty lines for those without a function: an empty line has no outcome.
     let (mut played, mut left_out) = (Vec::new(), HashSet::new());
     let (mut line, mut number) = (Vec::new(), 0);
-    while next_line(&mut input, &mut line)? {
+    while next_line(&mut script, &mut line)? {
         number += 1;
         if is_skipped(&line) || player.line(number, &line, &mut ours) {
             played.extend_from_slice(&line);
@@ -48,7 +64,7 @@ fn compare(script: &str, outcomes: &str) -> io::Result<bool> {
         }
         played.push(b'\n');
     }
-    let theirs = without(&read(outcomes)?, &left_out);
+    let theirs = without(outcomes, &left_out);
     let (compared, differences) = differences(&played[..], &ours[..], &theirs[..], &mut stdout())?;
     println!(
         "{compared} outcomes compared, {} left out: the library has no function for them",
