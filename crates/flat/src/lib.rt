@@ -1,4 +1,4 @@
-// Answers and parked calls as numbers.
+// Answers, parked calls and configurations as numbers.
 ghost use mathlib.Core.Path.{_≡_};
 ghost use Rattle.answers.specs.Answers.{said};
 ghost use Rattle.flat.specs.Kept.{laid};
@@ -6,6 +6,7 @@ ghost use Rattle.flat.specs.Out.{six};
 use access::Report;
 use blocking::Ran;
 
+pub mod configured;
 pub mod kept;
 pub mod out;
 
