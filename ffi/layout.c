@@ -61,11 +61,11 @@ static void non_blocking(void)
     same("after the link", memcmp(m.after, guard, sizeof guard), 0);
 }
 
-/* A write of one byte that parks for want of a word, and is resumed with other numbers than it was parked with. */
+/* A write of one byte that parks for want of a word, twice, and is resumed to its end; then numbers that no call left. */
 static void blocking(void)
 {
     uint8_t bytes[1] = {0x77}, none[1];
-    uint32_t words[4] = {0, 1u << 1, 1u << 5, 0}, log[16] = {0};
+    uint32_t words[3] = {0, 0, 1u << 1}, rest[3] = {1u << 5, 0, 0}, log[16] = {0};
     uint64_t parked[7], out[6];
     i2c_blocking_write(parked, 0x50, bytes, 1, words, 0, log, 16, out);
     same("out of words", out[0], 9);
@@ -74,16 +74,20 @@ static void blocking(void)
     same("to send", parked[2], 1);
     same("to receive", parked[3], 0);
     same("count", parked[6], 0);
-    i2c_blocking_resume(parked, bytes, 1, none, 0, words, 4, log, 16, out);
-    same("taken", out[1] >= 2, 1);
+    i2c_blocking_resume(parked, bytes, 1, none, 0, words, 3, log, 16, out);
+    same("out of words again", out[0], 9);
+    same("taken", out[1], 3);
     same("sent", parked[6], 1);
-    i2c_blocking_resume(parked, bytes, 1, none, 0, words, 4, log, 16, out);
-    same("not for long", out[0] == 11 || out[0] == 9 || out[0] == 0, 1);
+    same("TXDR", log[out[2] - 1], 0x77);
+    i2c_blocking_resume(parked, bytes, 1, none, 0, rest, 3, log, 16, out);
+    same("done", out[0], 0);
+    i2c_blocking_resume(parked, bytes, 1, none, 0, rest, 3, log, 16, out);
+    same("ended", out[0], 11);
     parked[4] = 1000;
-    i2c_blocking_resume(parked, bytes, 1, none, 0, words, 4, log, 16, out);
+    i2c_blocking_resume(parked, bytes, 1, none, 0, words, 3, log, 16, out);
     same("no such phase", out[0], 11);
     same("nothing logged", out[2], 0);
-    i2c_blocking_read(parked, 0x50, none, 0, words, 4, log, 16, out);
+    i2c_blocking_read(parked, 0x50, none, 0, words, 3, log, 16, out);
     same("no length", out[0], 6);
 }
 
