@@ -78,7 +78,7 @@ module _ {M : Type 1} (𝓤 : URA M) (H : Heap 𝓤) (A : Atoms 𝓤) where
   returns-to : (P Q R S : SProp 𝓤) → ent 𝓤 (sep 𝓤 Q R) S → ent 𝓤 (sep 𝓤 (sep 𝓤 P Q) R) (sep 𝓤 P S)
   returns-to P Q R S h = via 𝓤 (sep 𝓤 P (sep 𝓤 Q R)) (assoc∗ 𝓤 P Q R) (monoR 𝓤 P {Q = sep 𝓤 Q R} {Q′ = S} h)
 
-  abbrev Fronts : (n : ℕ) → Lfts (suc n) → Shares (suc n) → SProp 𝓤
+  abbrev pub Fronts : (n : ℕ) → Lfts (suc n) → Shares (suc n) → SProp 𝓤
   Fronts n κs qs = toks 𝓤 A n (front n κs) (front-share n qs)
 
   abbrev Last : (n : ℕ) → Lfts (suc n) → Shares (suc n) → SProp 𝓤
@@ -88,18 +88,18 @@ module _ {M : Type 1} (𝓤 : URA M) (H : Heap 𝓤) (A : Atoms 𝓤) where
   toks-apart zero κs qs = comm∗ 𝓤 (A .lft (κs .0) (qs .0)) (emp 𝓤)
   toks-apart (suc n) κs qs = rotates (A .lft (κs .0) (qs .0)) (Fronts n (κs .1) (qs .1)) (Last n (κs .1) (qs .1)) (toks 𝓤 A (suc n) (κs .1) (qs .1)) (toks-apart n (κs .1) (qs .1))
 
-  toks-whole : (n : ℕ) (κs : Lfts (suc n)) (qs : Shares (suc n)) → ent 𝓤 (sep 𝓤 (Fronts n κs qs) (Last n κs qs)) (toks 𝓤 A (suc n) κs qs)
+  pub toks-whole : (n : ℕ) (κs : Lfts (suc n)) (qs : Shares (suc n)) → ent 𝓤 (sep 𝓤 (Fronts n κs qs) (Last n κs qs)) (toks 𝓤 A (suc n) κs qs)
   toks-whole zero κs qs = comm∗ 𝓤 (emp 𝓤) (A .lft (κs .0) (qs .0))
   toks-whole (suc n) κs qs = returns-to (A .lft (κs .0) (qs .0)) (Fronts n (κs .1) (qs .1)) (Last n (κs .1) (qs .1)) (toks 𝓤 A (suc n) (κs .1) (qs .1)) (toks-whole n (κs .1) (qs .1))
 
-  abbrev all : List Fml → SProp 𝓤
+  abbrev pub all : List Fml → SProp 𝓤
   all Fs = sem 𝓤 H A (stars Fs)
 
   stars-apart : (Fs : List Fml) (F : Fml) → ent 𝓤 (all (Fs ++ (F ∷ []))) (sep 𝓤 (all Fs) (sem 𝓤 H A F))
   stars-apart [] F = comm∗ 𝓤 (sem 𝓤 H A F) (emp 𝓤)
   stars-apart (G ∷ Fs) F = rotates (sem 𝓤 H A G) (all Fs) (sem 𝓤 H A F) (all (Fs ++ (F ∷ []))) (stars-apart Fs F)
 
-  stars-whole : (Fs : List Fml) (F : Fml) → ent 𝓤 (sep 𝓤 (all Fs) (sem 𝓤 H A F)) (all (Fs ++ (F ∷ [])))
+  pub stars-whole : (Fs : List Fml) (F : Fml) → ent 𝓤 (sep 𝓤 (all Fs) (sem 𝓤 H A F)) (all (Fs ++ (F ∷ [])))
   stars-whole [] F = comm∗ 𝓤 (emp 𝓤) (sem 𝓤 H A F)
   stars-whole (G ∷ Fs) F = returns-to (sem 𝓤 H A G) (all Fs) (sem 𝓤 H A F) (all (Fs ++ (F ∷ []))) (stars-whole Fs F)
 
