@@ -56,7 +56,12 @@ impl Player {
             }
             Call::LinkNew(with) => match numbers(&with.settings) {
                 Some(config) => {
-                    link::construct(&mut self.link, &config, with.clock, &mut lent);
+                    // The script's link stays where the constructor is refused.
+                    let mut made = self.link.clone();
+                    link::construct(&mut made, &config, with.clock, &mut lent);
+                    if lent.is_done() {
+                        self.link = made;
+                    }
                     After::Link
                 }
                 None => return false,
