@@ -24,6 +24,14 @@ struct i2c_link {
     uint8_t data[255];
 };
 
+/* A configuration: speed set, speed, timing set, timing, analog filter, digital filter, own address, whether it has ten
+ * bits, second address, mask. A number that is not 0 says yes; a mask of 7 and above leaves no bit compared. */
+#define I2C_CONFIG const uint32_t config[10]
+
+/* What the link held before does not matter here; every other call wants a link that was constructed, or answers 12 where
+ * it is impossible. */
+void i2c_construct(struct i2c_link *link, I2C_CONFIG, uint32_t clock, I2C_WORDS, I2C_LOG, uint64_t out[6]);
+
 void i2c_check_isr_flags(struct i2c_link *link, I2C_WORDS, I2C_LOG, uint64_t out[6]);
 void i2c_master_write(struct i2c_link *link, uint16_t addr, I2C_BYTES, I2C_WORDS, I2C_LOG, uint64_t out[6]);
 void i2c_master_write_read(struct i2c_link *link, uint16_t addr, I2C_BYTES, uint8_t read_len, I2C_WORDS, I2C_LOG, uint64_t out[6]);
@@ -32,9 +40,14 @@ void i2c_slave_write(struct i2c_link *link, I2C_BYTES, I2C_WORDS, I2C_LOG, uint6
 void i2c_execute_watchdog(struct i2c_link *link, I2C_WORDS, I2C_LOG, uint64_t out[6]);
 void i2c_get_errors_reset(struct i2c_link *link, uint64_t out[6]);
 
-/* A configuration: speed set, speed, timing set, timing, analog filter, digital filter, own address, whether it has ten
- * bits, second address, mask. A number that is not 0 says yes; a mask of 7 and above leaves no bit compared. */
-#define I2C_CONFIG const uint32_t config[10]
+/* The bytes that get_data shows are the first ones of the link's data. */
+void i2c_master_get_data(const struct i2c_link *link, uint64_t out[6]);
+void i2c_slave_get_data(const struct i2c_link *link, uint64_t out[6]);
+void i2c_get_address(const struct i2c_link *link, uint64_t out[6]);
+void i2c_listen(const struct i2c_link *link, I2C_WORDS, I2C_LOG, uint64_t out[6]);
+void i2c_unlisten(const struct i2c_link *link, I2C_WORDS, I2C_LOG, uint64_t out[6]);
+void i2c_slave_sbc(const struct i2c_link *link, bool on, I2C_WORDS, I2C_LOG, uint64_t out[6]);
+void i2c_set_address(const struct i2c_link *link, uint16_t address, I2C_WORDS, I2C_LOG, uint64_t out[6]);
 
 /* A parked call of the blocking driver, kept by the caller: kind, address, length to send, length to receive, phase, the
  * phase's word, count. Written by a call that waits, read by i2c_blocking_resume. */

@@ -5,7 +5,10 @@ ghost use lib.ListN.{length as size};
 ghost use Rattle.ending.specs.Call.{checkIsrFlags, masterWrite, masterWriteRead, masterRead, slaveWrite, executeWatchdog, getErrorsReset};
 ghost use Rattle.ending.specs.Outcome.{outcome, Matches};
 ghost use Rattle.nonblocking.specs.Model.{model};
+ghost use Rattle.nonblocking.specs.Construct.{Constructed};
+ghost use Rattle.flat.specs.Configured.{configOf};
 ghost use Rattle.flat.specs.Out.{Out};
+use crate::fresh;
 use flat::out::put;
 use nonblocking::link::Link;
 
@@ -98,4 +101,19 @@ pub extern "C" fn i2c_get_errors_reset(link: &mut Link, out: &mut [u64; 6])
     ensures { λ _. ⌜ Out (λ r. (words log : List ℕ) → Matches (outcome (record { call = getErrorsReset; words = words; places = size log }) (model (now (link .entry)))) r (model (now (link .exit))) log log) (now (out .exit)) ⌝ }
 {
     put(nonblocking::lent::get_errors_reset(link), out);
+}
+
+// The configuration is ten numbers; the link is fresh afterwards, whatever it held before.
+#[no_mangle]
+pub extern "C" fn i2c_construct(
+    link: &mut Link,
+    config: &[u32; 10],
+    clock: u32,
+    words: &[u32],
+    log: &mut [u32],
+    out: &mut [u64; 6],
+)
+    ensures { λ _. ⌜ Out (λ r. Constructed (configOf (now (config .entry))) clock (now (words .entry)) (now (log .entry)) r (now (link .exit)) (now (log .exit))) (now (out .exit)) ⌝ }
+{
+    put(fresh::construct(link, config, clock, words, log), out);
 }

@@ -11,4 +11,4 @@ take-up-spec =
     (λ c. search needs)
     (λ c. search needs)
     (λ c κs. search needs)
-    (λ c. cc))
+    (λ c. rw (c .before .kind-of .ensures, c .phase-of .ensures)))
