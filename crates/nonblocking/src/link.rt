@@ -5,6 +5,7 @@ ghost use Rattle.nonblocking.specs.Model.{model};
 use access::Report;
 
 // What a link holds between calls.
+#[repr(C)]
 pub struct Link {
     pub address: u16,
     // On each start set to 10, on each stop set to 0.

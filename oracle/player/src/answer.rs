@@ -1,7 +1,7 @@
 //! Outcomes as text.
 
-use chip::tape::Access;
-use original_nonblocking::i2c::peek::Fields;
+pub use chip::tape::Access;
+pub use original_nonblocking::i2c::peek::Fields;
 use std::io::Write;
 
 /// What stands after `= `, or after `! `.

@@ -50,11 +50,23 @@ impl<R: BufRead> Outcomes<R> {
 /// Writes what it finds; true where both have the same outcome for each call of
 /// the script, and nothing else.
 pub fn compare(
-    mut script: impl BufRead,
+    script: impl BufRead,
     ours: impl BufRead,
     theirs: impl BufRead,
     out: &mut impl Write,
 ) -> io::Result<bool> {
+    let (calls, differences) = differences(script, ours, theirs, out)?;
+    writeln!(out, "{calls} calls, {differences} differences")?;
+    Ok(differences == 0)
+}
+
+/// Writes the first differences; the calls and the differences, counted.
+pub fn differences(
+    mut script: impl BufRead,
+    ours: impl BufRead,
+    theirs: impl BufRead,
+    out: &mut impl Write,
+) -> io::Result<(u64, u64)> {
     let (mut ours, mut theirs) = (Outcomes::new(ours)?, Outcomes::new(theirs)?);
     let (mut line, mut our, mut their) = (Vec::new(), Vec::new(), Vec::new());
     let (mut number, mut calls, mut differences) = (0, 0, 0);
@@ -89,8 +101,7 @@ pub fn compare(
             )?;
         }
     }
-    writeln!(out, "{calls} calls, {differences} differences")?;
-    Ok(differences == 0)
+    Ok((calls, differences))
 }
 
 fn show(out: &mut impl Write, name: &str, outcome: &[u8]) -> io::Result<()> {

@@ -18,7 +18,7 @@
 
 use crate::call::*;
 use crate::lexis::*;
-use chip::tape::ENDLESS;
+pub use chip::tape::ENDLESS;
 
 /// The most characters of a line.
 pub const MOST_CHARACTERS: usize = 32_768;

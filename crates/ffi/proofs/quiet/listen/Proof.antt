@@ -1,0 +1,12 @@
+-- `ffi::quiet::listen` meets its contract: the plan of the call leaves the link.
+use borrow.Author.Needs.{needs}
+use mathlib.Core.Path.{refl}
+use Rattle.ffi.proofs.Stays.{stays}
+use Rattle.ffi.proofs.quiet.listen.Statement.{statement}
+use Rattle.ffi.proofs.quiet.listen.Tie as tie
+
+returns : tie.Need-returns
+returns c = stays _ _ refl _ _ _ _ (c .before .before .before .listen .ensures)
+
+pub listen-spec : {M : Type 1} → statement M
+listen-spec = tie.close (tie.spec (λ c κs. search needs) (λ c. search needs) returns)

@@ -1,0 +1,26 @@
+-- `flat::configured::config_of` meets its contract: the settings and the mask are those that its callees return.
+use borrow.Author.Needs.{needs}
+use Rattle.flat.proofs.configured.config_of.Statement.{statement}
+use Rattle.flat.proofs.configured.config_of.Tie as tie
+
+pub config-of-spec : {M : Type 1} → statement M
+config-of-spec =
+    tie.close
+    (tie.spec
+    (λ c. search needs)
+    (λ c. search needs)
+    (λ c κs. search needs)
+    (λ c. search needs)
+    (λ c. search needs)
+    (λ c κs. search needs)
+    (λ c. search needs)
+    (λ c κs. search needs)
+    (λ c. search needs)
+    (λ c. search needs)
+    (λ c. search needs)
+    (λ c. search needs)
+    (λ c. search needs)
+    (λ c. search needs)
+    (λ c. search needs)
+    (λ c. search needs)
+    (λ c. rw (c .before .before .before .before .before .mask-of .ensures, c .before .before .before .before .before .before .before .setting-of2 .ensures, c .before .before .before .before .before .before .before .before .before .before .setting-of .ensures)))

@@ -1,0 +1,41 @@
+-- A configuration as ten numbers, and an event as one. Every number is taken.
+use Prim.Native.Nat.{ℕ, _%_}
+use mathlib.Core.Bool.{cond}
+use mathlib.Core.List.{List, [], _∷_}
+use lib.Dec.{ltb}
+use lib.ListN.{getD}
+use Rattle.blocking.specs.declared.Event.{Event}
+use Rattle.blocking.specs.declared.Event.the-variants.{AddressMatch, Rxne}
+use Rattle.registers.specs.declared.config.Config.{Config}
+use Rattle.registers.specs.declared.config.Setting.{Setting}
+use Rattle.registers.specs.declared.config.Setting.the-variants.{Unset, Set}
+use Rattle.registers.specs.declared.config.SlaveAddressMask.{SlaveAddressMask}
+use Rattle.registers.specs.declared.config.SlaveAddressMask.the-variants.{MaskNone, MaskOneBit, MaskTwoBits, MaskThreeBits, MaskFourBits, MaskFiveBits, MaskSixBits, MaskAllBits}
+
+-- a number that is not 0 says that the value is set
+abbrev pub settingOf : ℕ → ℕ → Setting
+settingOf on value = cond (ltb 0 on) (Set value) Unset
+
+abbrev pub masks : List SlaveAddressMask
+masks = MaskNone ∷ MaskOneBit ∷ MaskTwoBits ∷ MaskThreeBits ∷ MaskFourBits ∷ MaskFiveBits ∷ MaskSixBits ∷ []
+
+-- 7 and above: all bits
+abbrev pub maskOf : ℕ → SlaveAddressMask
+maskOf n = getD masks n MaskAllBits
+
+-- speed and whether it is set, timing and whether it is set, the two filters, the own address and whether it is long, the second address and its mask
+abbrev pub configOf : List ℕ → Config
+configOf xs = record {
+  speed = settingOf (getD xs 0 0) (getD xs 1 0);
+  timing = settingOf (getD xs 2 0) (getD xs 3 0);
+  «analog_filter» = ltb 0 (getD xs 4 0);
+  «digital_filter» = getD xs 5 0 % 256;
+  «slave_address_1» = getD xs 6 0 % 65536;
+  «address_11bits» = ltb 0 (getD xs 7 0);
+  «slave_address_2» = getD xs 8 0 % 256;
+  «slave_address_mask» = maskOf (getD xs 9 0);
+}
+
+-- 0: an address match; every other number: a byte received
+abbrev pub eventOf : ℕ → Event
+eventOf n = cond (ltb 0 n) Rxne AddressMatch

@@ -1,0 +1,3 @@
+pub mod Configured
+pub mod Kept
+pub mod Out

@@ -1,0 +1,76 @@
+// An answer as six numbers.
+ghost use mathlib.Core.Path.{_≡_};
+ghost use mathlib.Core.List.{[], _∷_};
+ghost use Rattle.flat.specs.Out.{flat};
+use access::Report;
+use answers::Answer;
+
+// The answer's number, the words taken, the places logged, and the answer's values.
+pub fn put(report: Report, out: &mut [u64; 6])
+    ensures { λ _. ⌜ now (out .exit) ≡ flat report ⌝ }
+{
+    let taken = report.taken;
+    let logged = report.logged;
+    let answer = report.answer;
+    match answer {
+        Answer::Done => fill(out, 0, taken, logged, 0, 0, 0),
+        Answer::Pending => fill(out, 1, taken, logged, 0, 0, 0),
+        Answer::Nack => fill(out, 2, taken, logged, 0, 0, 0),
+        Answer::BusError => fill(out, 3, taken, logged, 0, 0, 0),
+        Answer::ArbitrationLost => fill(out, 4, taken, logged, 0, 0, 0),
+        Answer::IncorrectFrameSize(count) => fill(out, 5, taken, logged, count, 0, 0),
+        Answer::BadLength => fill(out, 6, taken, logged, 0, 0, 0),
+        Answer::NoRate => fill(out, 7, taken, logged, 0, 0, 0),
+        Answer::BadFilter => fill(out, 8, taken, logged, 0, 0, 0),
+        Answer::OutOfWords => fill(out, 9, taken, logged, 0, 0, 0),
+        Answer::LogFull => fill(out, 10, taken, logged, 0, 0, 0),
+        Answer::WrongCall => fill(out, 11, taken, logged, 0, 0, 0),
+        Answer::ImpossibleLink => fill(out, 12, taken, logged, 0, 0, 0),
+        Answer::Data {
+            address,
+            direction,
+            count,
+        } => fill(
+            out,
+            0x44,
+            taken,
+            logged,
+            address as usize,
+            direction.number() as usize,
+            count,
+        ),
+        Answer::Addressed { address, direction } => fill(
+            out,
+            0x41,
+            taken,
+            logged,
+            address as usize,
+            direction.number() as usize,
+            0,
+        ),
+        Answer::Errors(count) => fill(out, 0x45, taken, logged, count as usize, 0, 0),
+        Answer::Address(address) => fill(out, 0x4E, taken, logged, address as usize, 0, 0),
+        Answer::Bytes(count) => fill(out, 0x47, taken, logged, count, 0, 0),
+    }
+}
+
+fn fill(
+    out: &mut [u64; 6],
+    number: usize,
+    taken: usize,
+    logged: usize,
+    first: usize,
+    second: usize,
+    third: usize,
+)
+    ensures { λ _. ⌜ now (out .exit) ≡ number ∷ taken ∷ logged ∷ first ∷ second ∷ third ∷ [] ⌝ }
+{
+    *out = [
+        number as u64,
+        taken as u64,
+        logged as u64,
+        first as u64,
+        second as u64,
+        third as u64,
+    ];
+}
