@@ -28,12 +28,18 @@ impl<I2C, SDA, SCL> I2c<I2C, SDA, SCL> {
     }
 
     pub fn set_fields(&mut self, fields: &Fields) {
+        self.set_numbers(fields);
+        self.data = fields.data;
+    }
+
+    /// Sets all fields but the buffer.
+    #[inline]
+    pub fn set_numbers(&mut self, fields: &Fields) {
         self.address = fields.address;
         self.watchdog = fields.watchdog;
         self.index = fields.index;
         self.length = fields.length;
         self.errors = fields.errors;
         self.length_write_read = fields.length_write_read;
-        self.data = fields.data;
     }
 }

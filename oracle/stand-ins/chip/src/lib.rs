@@ -5,5 +5,6 @@ pub mod gpio;
 pub mod rcc;
 mod register;
 pub mod stm32;
+#[cfg_attr(feature = "lean", path = "lean_tape.rs")]
 pub mod tape;
 pub mod time;

@@ -10,6 +10,7 @@ pub struct FieldReader<T> {
 }
 
 impl<T> FieldReader<T> {
+    #[inline]
     pub(crate) fn of(word: u32, place: u32, width: u32) -> Self {
         FieldReader {
             bits: word >> place & mask(width),
@@ -19,12 +20,14 @@ impl<T> FieldReader<T> {
 }
 
 impl FieldReader<bool> {
+    #[inline]
     pub fn bit_is_set(&self) -> bool {
         self.bits == 1
     }
 }
 
 impl FieldReader<u8> {
+    #[inline]
     pub fn bits(&self) -> u8 {
         self.bits as u8
     }
@@ -44,6 +47,7 @@ pub struct FieldWriter<'a, W, T> {
 }
 
 impl<'a, W: Word, T: Into<u32>> FieldWriter<'a, W, T> {
+    #[inline]
     pub(crate) fn of(word: &'a mut W, place: u32, width: u32) -> Self {
         FieldWriter {
             word,
@@ -53,6 +57,7 @@ impl<'a, W: Word, T: Into<u32>> FieldWriter<'a, W, T> {
         }
     }
 
+    #[inline]
     pub fn bits(self, value: T) -> &'a mut W {
         let mask = mask(self.width);
         let word = self.word.word();
@@ -62,19 +67,23 @@ impl<'a, W: Word, T: Into<u32>> FieldWriter<'a, W, T> {
 }
 
 impl<'a, W: Word> FieldWriter<'a, W, bool> {
+    #[inline]
     pub fn bit(self, value: bool) -> &'a mut W {
         self.bits(value)
     }
 
+    #[inline]
     pub fn set_bit(self) -> &'a mut W {
         self.bits(true)
     }
 
+    #[inline]
     pub fn clear_bit(self) -> &'a mut W {
         self.bits(false)
     }
 }
 
+#[inline]
 fn mask(width: u32) -> u32 {
     (1 << width) - 1
 }
@@ -96,6 +105,7 @@ macro_rules! registers {
 
                 impl R {
                     $(
+                        #[inline]
                         pub fn $field(&self) -> FieldReader<$type> {
                             FieldReader::of(self.0, $place, $width)
                         }
@@ -105,18 +115,21 @@ macro_rules! registers {
                 pub struct W(u32);
 
                 impl Word for W {
+                    #[inline]
                     fn word(&mut self) -> &mut u32 {
                         &mut self.0
                     }
                 }
 
                 impl W {
+                    #[inline]
                     pub fn bits(&mut self, word: u32) -> &mut Self {
                         self.0 = word;
                         self
                     }
 
                     $(
+                        #[inline]
                         pub fn $field(&mut self) -> FieldWriter<'_, W, $type> {
                             FieldWriter::of(self, $place, $width)
                         }
@@ -126,16 +139,19 @@ macro_rules! registers {
                 pub struct Register;
 
                 impl Register {
+                    #[inline]
                     pub fn read(&self) -> R {
                         R(tape::read($offset))
                     }
 
+                    #[inline]
                     pub fn write(&self, form: impl FnOnce(&mut W) -> &mut W) {
                         let mut word = W($start);
                         form(&mut word);
                         tape::write($offset, word.0);
                     }
 
+                    #[inline]
                     pub fn modify<F>(&self, form: F)
                     where
                         for<'w> F: FnOnce(&R, &'w mut W) -> &'w mut W,

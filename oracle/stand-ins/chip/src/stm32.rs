@@ -45,6 +45,7 @@ macro_rules! peripherals {
             impl core::ops::Deref for $name {
                 type Target = RegisterBlock;
 
+                #[inline]
                 fn deref(&self) -> &RegisterBlock {
                     &BLOCK
                 }
