@@ -9,7 +9,7 @@ const HEAD: &str = "# Performance
 Written by `bench/run`. The original Rust driver and the Rattle module make the same calls in one program, with the same words and the same log in memory.
 
 - **Instructions** are counted by callgrind, from a call's first instruction to its return, with all that it calls. They are the same in every run.
-- **Time** is ours over the original's: the shortest of 2000 batches of 32 calls each, in turn, in one run. The links of a batch are set before it is timed; each call has the words and the log from their begin.
+- **Time** is ours over the original's: the shortest of 2000 batches of each, in turn, in one run; a batch is 32 calls, or one call where it has over 64 words. The links of a batch are set before it is timed; each call has the words and the log from their begin.
 - **Buffers are not cleared** between calls, on neither side.
 - Before a row is counted both sides are run and compared: answers, words taken, logs, links and buffers are the same.
 - The original reads its words and writes its log by bare pointers and checks nothing of them. Ours tests the list of words (answer 9), the log (10) and the link (12), and caps the error count.

@@ -38,7 +38,6 @@ use Rattle.access.proofs.Report as P
 use Rattle.access.proofs.Report.Laws as P′
 use Rattle.flat.specs.Out.{flat as six}
 use Rattle.flat.proofs.out.put as put
-use Rattle.flat.proofs.out.put.Symbol as symbol
 
 -- ---- all but the last, and the last
 abbrev pub front : (n : ℕ) → Lfts (suc n) → Lfts n
@@ -143,11 +142,11 @@ module _ {M : Type 1} {𝓤 : URA M} {H : Heap 𝓤} {A : Atoms 𝓤} {K : Type 
       -- [the tokens; the report; the last values; what is ensured; the last token; `out`]
       move t (1 ∷ 4 ∷ 5 ∷ 0 ∷ 2 ∷ 3 ∷ []) $ peeks t P.the-row (Is P.the-row) (shows 𝓤 H A P.the-row) r (w ∷ []) (λ is. k r w zs (LL.lawful P.the-type P′.the-laws 𝓤 H A W .typed r _ is .0)))))
 
-  pub calls-put : K → {C : Calls 𝓤 H} {Λ : Loops 𝓤 H} → FmC 𝓤 H (W .laws) C → {xs : List Operand} {d : Place} {rest : Code} {p : Post 𝓤 H} (mem : Memory → SProp 𝓤) (run : Routine → Fun 𝓤) → Triple 𝓤 (C symbol.name) (Put 𝓤 H A mem run)
+  pub calls-put : K → {C : Calls 𝓤 H} {Λ : Loops 𝓤 H} → FmC 𝓤 H (W .laws) C → {n : Symbol} {xs : List Operand} {d : Place} {rest : Code} {p : Post 𝓤 H} (mem : Memory → SProp 𝓤) (run : Routine → Fun 𝓤) → Triple 𝓤 (C n) (Put 𝓤 H A mem run)
       → (κ : Lft) (q : Share) (r : Report) (w : Val) (out : RefT (List ℕ))
       → Opds K W (raw (Put 𝓤 H A mem run .pre (to-put 𝓤 H A mem run κ q r w out)) ∷ Γ) E xs (Put 𝓤 H A mem run .args (to-put 𝓤 H A mem run κ q r w out))
       → ((v : Val) (z : List ℕ) → z ≡ six r → T (hasTy tyUnit v) × WT v → Seq K W (‵ (flft κ q) ∷ ‵ (out-last out z) ∷ Γ) (lands C Λ E d v rest p))
-      → Seq K W (‵ (P.the-row .own r (w ∷ [])) ∷ ‵ (flft κ q) ∷ ‵ (out-own κ out) ∷ Γ) (runs C Λ E (seq (call symbol.name xs d) rest) p)
+      → Seq K W (‵ (P.the-row .own r (w ∷ [])) ∷ ‵ (flft κ q) ∷ ‵ (out-own κ out) ∷ Γ) (runs C Λ E (seq (call n xs d) rest) p)
   calls-put t fm mem run met κ q r w out operands k =
       nothing t $ move t (3 ∷ 0 ∷ []) $ fjoin t $ move t (1 ∷ 0 ∷ []) $ fjoin t $ nothing t $ move t (2 ∷ 0 ∷ []) $ join t $ join t $
       use1 W (raw (Put 𝓤 H A mem run .pre (to-put 𝓤 H A mem run κ q r w out))) (enters 𝓤 _) $

@@ -10,6 +10,7 @@ ghost use Rattle.flat.specs.Configured.{configOf};
 ghost use Rattle.flat.specs.Out.{Out};
 use crate::fresh;
 use flat::out::put;
+use flat::out::put_checked;
 use nonblocking::link::Link;
 
 #[no_mangle]
@@ -21,7 +22,7 @@ pub extern "C" fn i2c_check_isr_flags(
 )
     ensures { λ _. ⌜ Out (λ r. Matches (outcome (record { call = checkIsrFlags; words = now (words .entry); places = size (now (log .entry)) }) (model (now (link .entry)))) r (model (now (link .exit))) (now (log .entry)) (now (log .exit))) (now (out .exit)) ⌝ }
 {
-    put(lent::check_isr_flags(link, words, log), out);
+    put_checked(lent::check_isr_flags(link, words, log), out);
 }
 
 #[no_mangle]

@@ -1,71 +1,17 @@
--- `flat::out::put` meets its contract: each arm fills in the numbers of its answer.
 use borrow.Author.Needs.{needs}
 use Rattle.flat.proofs.out.put.Statement.{statement}
 use Rattle.flat.proofs.out.put.Tie as tie
+use Rattle.flat.proofs.out.put.Reads as reads
+use Rattle.flat.proofs.out.put.Lts as lts
+use Rattle.flat.proofs.out.figures_of.Reads as figures-of-reads
+
+-- src/out.rt:77:9
+figures-of-requires : tie.Need-figures-of-requires
+figures-of-requires c κs = search needs
+
+-- src/out.rt:71:1
+returns : tie.Need-returns
+returns c = c .before .figures-of .ensures (c .before .before .args .report .taken) (c .before .before .args .report .logged)
 
 pub put-spec : {M : Type 1} → statement M
-put-spec =
-    tie.close
-    (tie.spec
-    (λ c. search needs)
-    (λ c κs. search needs)
-    (λ c. search needs)
-    (λ c κs. search needs)
-    (λ c. search needs)
-    (λ c κs. search needs)
-    (λ c. search needs)
-    (λ c κs. search needs)
-    (λ c. search needs)
-    (λ c κs. search needs)
-    (λ c. search needs)
-    (λ c κs. search needs)
-    (λ c. search needs)
-    (λ c κs. search needs)
-    (λ c. search needs)
-    (λ c κs. search needs)
-    (λ c. search needs)
-    (λ c κs. search needs)
-    (λ c. search needs)
-    (λ c κs. search needs)
-    (λ c. search needs)
-    (λ c κs. search needs)
-    (λ c. search needs)
-    (λ c κs. search needs)
-    (λ c. search needs)
-    (λ c κs. search needs)
-    (λ c. search needs)
-    (λ c. search needs)
-    (λ c κs. search needs)
-    (λ c. search needs)
-    (λ c κs. search needs)
-    (λ c. search needs)
-    (λ c. search needs)
-    (λ c κs. search needs)
-    (λ c. search needs)
-    (λ c κs. search needs)
-    (λ c. search needs)
-    (λ c. search needs)
-    (λ c κs. search needs)
-    (λ c. search needs)
-    (λ c. search needs)
-    (λ c κs. search needs)
-    (λ c. search needs)
-    (λ c κs. search needs)
-    (λ c. rw (c .before .before .enum-told .given .1) (c .fill .ensures))
-    (λ c. rw (c .before .before .enum-told2 .given .1) (c .fill2 .ensures))
-    (λ c. rw (c .before .before .enum-told3 .given .1) (c .fill3 .ensures))
-    (λ c. rw (c .before .before .enum-told4 .given .1) (c .fill4 .ensures))
-    (λ c. rw (c .before .before .enum-told5 .given .1) (c .fill5 .ensures))
-    (λ c. rw (c .before .before .before .answer .given .1) (c .fill6 .ensures))
-    (λ c. rw (c .before .before .enum-told6 .given .1) (c .fill7 .ensures))
-    (λ c. rw (c .before .before .enum-told7 .given .1) (c .fill8 .ensures))
-    (λ c. rw (c .before .before .enum-told8 .given .1) (c .fill9 .ensures))
-    (λ c. rw (c .before .before .enum-told9 .given .1) (c .fill10 .ensures))
-    (λ c. rw (c .before .before .enum-told10 .given .1) (c .fill11 .ensures))
-    (λ c. rw (c .before .before .enum-told11 .given .1) (c .fill12 .ensures))
-    (λ c. rw (c .before .before .enum-told12 .given .1) (c .fill13 .ensures))
-    (λ c. rw (c .before .before .before .before .answer2 .given .1) (rw (c .before .number .ensures) at (c .fill14 .ensures)))
-    (λ c. rw (c .before .before .before .before .answer3 .given .1) (rw (c .before .number2 .ensures) at (c .fill15 .ensures)))
-    (λ c. rw (c .before .before .before .answer4 .given .1) (c .fill16 .ensures))
-    (λ c. rw (c .before .before .before .answer5 .given .1) (c .fill17 .ensures))
-    (λ c. rw (c .before .before .before .answer6 .given .1) (c .fill18 .ensures)))
+put-spec = tie.close (tie.spec figures-of-requires returns)
