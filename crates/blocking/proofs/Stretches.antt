@@ -12,7 +12,7 @@ use borrow.Rule.Slice.PartMut.{putMid, post-is}
 use Rattle.answers.specs.Answers.{says}
 use Rattle.access.specs.Access.{over}
 use Rattle.parked.specs.declared.End.{End}
-use Rattle.parked.specs.declared.Phase.the-variants.{Ended}
+use Rattle.parked.specs.declared.Phase.the-variants.{Transfer, Ended}
 use Rattle.parked.specs.declared.Next.{Next}
 use Rattle.parked.specs.declared.Next.the-variants.{Read, Write, Over as OverA}
 use Rattle.parked.specs.declared.Parked.{Parked}
@@ -90,7 +90,7 @@ turned-over s p b ws log a r e h =
 
 ends-at : (s : List ℕ) (p : Parked) (b ws : List ℕ) (n : ℕ) (u : Turn) → Told u p → Ends u 0 2 (runs s n p b ws) p b
 ends-at s p b ws n Again e = refl
-ends-at s p b ws n Found e = refl
+ends-at s p b ws n Found e = (refl, e)
 ends-at s p b ws n (Over a) e = run-over s p b n ws a (wants-at p _ (Ended a) e)
 
 pub turned-step : (s : List ℕ) (p p′ : Parked) (b b′ ws log : List ℕ) (t o w : ℕ) (u : Turn) → Told u p′ → 2 ≤ length log → t ≤ length ws
@@ -107,7 +107,7 @@ turned-step s p p′ b b′ ws log t o w u e h k f =
 
 further : (u : Turn) (g l : ℕ) (q : Outcome) (p : Parked) (b : List ℕ) → Ends u 0 l q p b → Ends u g (g + l) q p b
 further Again g l q p b e = rw e
-further Found g l q p b e = rw e
+further Found g l q p b e = (rw (e .0), e .1)
 further (Over a) g l q p b e = e
 
 module _ (s ws log b : List ℕ) (p : Progress) (r : Progress) (b′ ys : List ℕ) (ht : p .taken ≤ length ws) (hg : p .logged ≤ length log)
@@ -174,7 +174,10 @@ module _ {s ws log b : List ℕ} {p r : Progress} {log′ b′ : List ℕ} (f : 
   more-again e = told Again e
 
   pub more-found : r .turn ≡ Found → r .logged ≡ p .logged + 2
-  more-found e = told Found e
+  more-found e = told Found e .0
+
+  pub byte-next : r .turn ≡ Found → r .parked .phase ≡ Transfer
+  byte-next e = told Found e .1
 
   pub no-more : (a : End) → r .turn ≡ Over a → runs s ((length log - r .logged) / 2) (r .parked) b′ (drop (r .taken) ws) ≡ stopped (answer a (r .parked)) (r .parked) b′
   no-more a e = told (Over a) e

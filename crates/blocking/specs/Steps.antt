@@ -5,7 +5,7 @@ use mathlib.Core.List.{List, [], _∷_, _++_}
 use lib.ListN.{length, take, drop}
 use Rattle.answers.specs.Answers.{said}
 use Rattle.parked.specs.declared.End.{End}
-use Rattle.parked.specs.declared.Phase.the-variants.{Ended}
+use Rattle.parked.specs.declared.Phase.the-variants.{Transfer, Ended}
 use Rattle.parked.specs.declared.Parked.{Parked}
 use Rattle.blocking.specs.declared.Turn.{Turn}
 use Rattle.blocking.specs.declared.Turn.the-variants.{Again, Found, Over}
@@ -21,16 +21,16 @@ pub record Answered (p : Progress) (e : End) (r : Ran) : Type 0 where
   pub taken : r .taken ≡ p .taken
   pub logged : r .logged ≡ p .logged
 
--- a turn that says the call is over tells why
+-- a turn that says the call is over tells why, and one that says the flag is found that a byte is next
 abbrev pub Told : Turn → Parked → Type 0
 Told Again p = p ≡ p
-Told Found p = p ≡ p
+Told Found p = p .phase ≡ Transfer
 Told (Over e) p = p .phase ≡ Ended e
 
 -- an access was made, or the run stops here
 abbrev pub Ends : Turn → ℕ → ℕ → Outcome → Parked → List ℕ → Type 0
 Ends Again g g′ q p b = g′ ≡ g + 2
-Ends Found g g′ q p b = g′ ≡ g + 2
+Ends Found g g′ q p b = (g′ ≡ g + 2) × (p .phase ≡ Transfer)
 Ends (Over e) g g′ q p b = q ≡ stopped (answer e p) p b
 
 -- a run over `ws` with the log `start` has taken words and logged accesses, and goes on from a call and a buffer

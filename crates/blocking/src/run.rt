@@ -1,7 +1,10 @@
 // Running a call: one access after the other, until it is over or parks.
 ghost use mathlib.Core.Path.{_≡_};
-ghost use Prim.Native.Nat.{_/_, _≤_};
+ghost use mathlib.Core.Bool.{true, false};
+ghost use mathlib.Core.List.{List};
+ghost use Prim.Native.Nat.{ℕ, _/_, _≤_};
 ghost use lib.ListN.{length, getD};
+ghost use Rattle.parked.specs.Kinds.{incoming};
 ghost use Rattle.blocking.specs.Run.{kept, runs, outcome, called, resumed, room, Whole};
 ghost use Rattle.blocking.specs.Steps.{Told, Answered, Turned, Forward};
 use crate::Progress;
@@ -14,6 +17,8 @@ use parked::Next;
 use parked::Parked;
 use parked::Phase;
 use registers::data::Rxdr;
+use registers::data::Txdr;
+use registers::isr::Isr;
 
 fn turn(call: Parked) -> Turn
     ensures { λ r. ⌜ Told r call ⌝ }
@@ -64,6 +69,91 @@ fn over(call: Parked, end: End) -> Progress
     }
 }
 
+// One read of ISR by a call that waits.
+fn wait(call: Parked, words: &[u32], log: &mut [u32]) -> Progress
+    requires { ⌜ call .phase ≡ Phase.Wait ⌝ }
+    ensures { λ r. ⌜ ((s b : List ℕ) → Turned s call b (now (words .entry)) (now (log .entry)) r b (now (log .exit))) ⌝ }
+{
+    if words.len() == 0 {
+        return over(call, End::OutOfWords);
+    }
+    if log.len() < 2 {
+        return over(call, End::LogFull);
+    }
+    let word = words[0];
+    log[0] = Isr::READ;
+    log[1] = word;
+    let after = call.waited(word);
+    Progress {
+        turn: turn(after),
+        parked: after,
+        taken: 1,
+        logged: 2,
+    }
+}
+
+// The byte comes in.
+fn receive_byte(call: Parked, receive: &mut [u8], words: &[u32], log: &mut [u32]) -> Progress
+    requires { ⌜ (call .phase ≡ Phase.Transfer) × (incoming (call .kind) ≡ true) ⌝ }
+    ensures { λ r. ⌜ ((s : List ℕ) → Turned s call (now (receive .entry)) (now (words .entry)) (now (log .entry)) r (now (receive .exit)) (now (log .exit))) ⌝ }
+{
+    if words.len() == 0 {
+        return over(call, End::OutOfWords);
+    }
+    if log.len() < 2 {
+        return over(call, End::LogFull);
+    }
+    let word = words[0];
+    log[0] = Rxdr::READ;
+    log[1] = word;
+    let count = call.count;
+    let bound = call.receive;
+    keep_byte(count < bound, count, word, receive);
+    Progress {
+        turn: Turn::Again,
+        parked: call.exchanged(bound),
+        taken: 1,
+        logged: 2,
+    }
+}
+
+// The byte goes out.
+fn send_byte(call: Parked, send: &[u8], log: &mut [u32]) -> Progress
+    requires { ⌜ (call .phase ≡ Phase.Transfer) × (incoming (call .kind) ≡ false) ⌝ }
+    ensures { λ r. ⌜ ((b ws : List ℕ) → Turned (now (send .entry)) call b ws (now (log .entry)) r b (now (log .exit))) ⌝ }
+{
+    if log.len() < 2 {
+        return over(call, End::LogFull);
+    }
+    let byte = byte_at(send, call.count);
+    log[0] = Txdr::WRITE;
+    log[1] = Txdr::sent(byte);
+    Progress {
+        turn: Turn::Again,
+        parked: call.exchanged(call.send),
+        taken: 0,
+        logged: 2,
+    }
+}
+
+// The access of a call at its byte.
+fn exchange(
+    call: Parked,
+    send: &[u8],
+    receive: &mut [u8],
+    words: &[u32],
+    log: &mut [u32],
+) -> Progress
+    requires { ⌜ call .phase ≡ Phase.Transfer ⌝ }
+    ensures { λ r. ⌜ Turned (now (send .entry)) call (now (receive .entry)) (now (words .entry)) (now (log .entry)) r (now (receive .exit)) (now (log .exit)) ⌝ }
+{
+    let kind = call.kind;
+    if kind.incoming() {
+        return receive_byte(call, receive, words, log);
+    }
+    send_byte(call, send, log)
+}
+
 // One access, over the words and the log that are left.
 fn advance(
     call: Parked,
@@ -74,6 +164,10 @@ fn advance(
 ) -> Progress
     ensures { λ r. ⌜ Turned (now (send .entry)) call (now (receive .entry)) (now (words .entry)) (now (log .entry)) r (now (receive .exit)) (now (log .exit)) ⌝ }
 {
+    let phase = call.phase;
+    if let Phase::Wait = phase {
+        return wait(call, words, log);
+    }
     let count = call.count;
     let byte = byte_at(send, count);
     let next = call.wants(byte);
@@ -134,6 +228,31 @@ fn forward(p: Progress, send: &[u8], receive: &mut [u8], words: &[u32], log: &mu
     }
 }
 
+// The same of a call at its byte.
+fn forward_byte(
+    p: Progress,
+    send: &[u8],
+    receive: &mut [u8],
+    words: &[u32],
+    log: &mut [u32],
+) -> Progress
+    requires { ⌜ (p .taken ≤ length (now words)) × (p .logged ≤ length (now log)) × (p .parked .phase ≡ Phase.Transfer) ⌝ }
+    ensures { λ r. ⌜ Forward (now (send .entry)) (now (words .entry)) (now (log .entry)) (now (receive .entry)) p r (now (log .exit)) (now (receive .exit)) ⌝ }
+{
+    let taken = p.taken;
+    let logged = p.logged;
+    let call = p.parked;
+    let step = exchange(call, send, receive, &words[taken..], &mut log[logged..]);
+    let turn = step.turn;
+    let parked = step.parked;
+    Progress {
+        turn,
+        parked,
+        taken: taken + step.taken,
+        logged: logged + step.logged,
+    }
+}
+
 impl Progress {
     fn answered(self, end: End) -> Ran
         ensures { λ r. ⌜ Answered self end r ⌝ }
@@ -170,7 +289,7 @@ fn transfer(call: Parked, send: &[u8], receive: &mut [u8], words: &[u32], log: &
             }
         }
         // The byte goes out or comes in.
-        p = forward(p, send, receive, words, log);
+        p = forward_byte(p, send, receive, words, log);
         let turn = p.turn;
         match turn {
             Turn::Over(end) => break 'transfer p.answered(end),

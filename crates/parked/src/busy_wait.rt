@@ -83,14 +83,14 @@ impl Parked {
     fn found(self) -> Phase
         ensures { λ r. ⌜ r ≡ found self ⌝ }
     {
-        if self.tc_wait() {
-            return Phase::Restart;
-        }
-        let kind = self.kind;
-        if kind.pads() {
+        if self.more() {
             return Phase::Transfer;
         }
-        if self.more() {
+        let kind = self.kind;
+        if kind.restarts() {
+            return Phase::Restart;
+        }
+        if kind.pads() {
             return Phase::Transfer;
         }
         Phase::Wait

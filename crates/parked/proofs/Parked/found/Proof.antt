@@ -1,24 +1,32 @@
--- `blocking::Parked::found` meets its contract.
-use mathlib.Core.Path.{_≡_, sym, _∙_}
-use Rattle.parked.specs.After.{found}
+-- `parked::Parked::found` meets its contract.
+use mathlib.Core.Path.{_≡_, refl, sym, _∙_}
+use mathlib.Core.Bool.{Bool, true, false, cond}
+use Rattle.parked.specs.declared.Phase.{Phase}
+use Rattle.parked.specs.declared.Phase.the-variants.{Transfer}
+use Rattle.parked.specs.Kinds.{pads}
+use Rattle.parked.specs.After.{found, tcWait}
 use Rattle.parked.proofs.Parked.found.Statement.{statement}
 use Rattle.parked.proofs.Parked.found.Tie as tie
 
+same : (t : Bool) (f : Phase) → f ≡ cond t f f
+same true f = refl
+same false f = refl
+
 returns : tie.Need-returns
-unfolding found
-returns c = rw (sym (c .before .tc-wait .ensures) ∙ c .if1 .taken)
+unfolding found tcWait
+returns c = rw (sym (c .before .more .ensures) ∙ c .if1 .taken) (same (pads (c .before .before .args .self .kind)) Transfer)
 
 returns-2 : tie.Need-returns-2
-unfolding found
-returns-2 c = rw (sym (c .before .before .before .tc-wait .ensures) ∙ c .before .before .if1 .left, sym (c .before .pads .ensures) ∙ c .if2 .taken)
+unfolding found tcWait
+returns-2 c = rw (sym (c .before .before .before .more .ensures) ∙ c .before .before .if1 .left, sym (c .before .restarts .ensures) ∙ c .if2 .taken)
 
 returns-3 : tie.Need-returns-3
-unfolding found
-returns-3 c = rw (sym (c .before .before .before .before .before .tc-wait .ensures) ∙ c .before .before .before .before .if1 .left, sym (c .before .before .before .pads .ensures) ∙ c .before .before .if2 .left, sym (c .before .more .ensures) ∙ c .if3 .taken)
+unfolding found tcWait
+returns-3 c = rw (sym (c .before .before .before .before .before .more .ensures) ∙ c .before .before .before .before .if1 .left, sym (c .before .before .before .restarts .ensures) ∙ c .before .before .if2 .left, sym (c .before .pads .ensures) ∙ c .if3 .taken)
 
 returns-4 : tie.Need-returns-4
-unfolding found
-returns-4 c = rw (sym (c .before .before .before .before .before .tc-wait .ensures) ∙ c .before .before .before .before .if1 .left, sym (c .before .before .before .pads .ensures) ∙ c .before .before .if2 .left, sym (c .before .more .ensures) ∙ c .if3 .left)
+unfolding found tcWait
+returns-4 c = rw (sym (c .before .before .before .before .before .more .ensures) ∙ c .before .before .before .before .if1 .left, sym (c .before .before .before .restarts .ensures) ∙ c .before .before .if2 .left, sym (c .before .pads .ensures) ∙ c .if3 .left)
 
 pub found-spec : {M : Type 1} → statement M
 found-spec = tie.close (tie.spec (λ c κs. tt) returns (λ c κs. tt) returns-2 (λ c κs. tt) returns-3 returns-4)

@@ -1,0 +1,46 @@
+-- `blocking::run::forward_byte` meets its contract: what the part does is one access of the whole run.
+use native.Mathlib.Nat.{lt-of-le-of-lt}
+use mathlib.Core.Path.{_≡_, refl, sym, ap, _∙_}
+use Prim.Native.Nat.{ℕ, _+_, _≤_}
+use lib.ListN.{length}
+use Rattle.blocking.proofs.Stretches.{part-fits, forward-part}
+use borrow.Author.Needs.{needs}
+use Rattle.blocking.proofs.run.forward_byte.Statement.{statement}
+use Rattle.blocking.proofs.run.forward_byte.Tie as tie
+
+add-t14 : tie.Need-add-t14
+add-t14 c =
+    let a = c .before .before .before .before .before .before .before .before .before .before .before .before .before .before .before .args in
+    let v = c .before .before .before .before .before .before .exchange in
+    record { fits = lt-of-le-of-lt (part-fits (v .result .taken) (a .p .taken) (a .words .now) (c .before .before .before .before .before .before .before .before .before .before .before .before .before .before .before .pre .0) (v .ensures .words)) (c .before .before .before .before .before .before .before .before .before .before .before .before .before .before .before .good .1 .1 .1 .0 .0) }
+
+add-t21 : tie.Need-add-t21
+add-t21 c =
+    let a = c .before .before .before .before .before .before .before .before .before .before .before .before .before .before .before .before .args in
+    let v = c .before .before .before .before .before .before .before .exchange in
+    record { fits = lt-of-le-of-lt (part-fits (v .result .logged) (a .p .logged) (a .log .now) (c .before .before .before .before .before .before .before .before .before .before .before .before .before .before .before .before .pre .1) (v .ensures .room)) (c .before .before .before .before .before .before .before .before .before .before .before .before .before .before .before .before .good .1 .1 .1 .1 .0 .0) }
+
+returns : tie.Need-returns
+returns c =
+    let a = c .before .before .before .before .before .before .before .before .before .before .before .before .before .before .before .before .args in
+    let v = c .before .before .before .before .before .before .before .exchange in
+    forward-part (a .send .now) (a .words .now) (a .log .now) (a .receive .now) (a .p) (v .result) (v .last .1 .1 .0) (v .last .1 .1 .1 .1 .0) (c .before .before .before .before .before .before .before .before .before .before .before .before .before .before .before .before .pre .0) (c .before .before .before .before .before .before .before .before .before .before .before .before .before .before .before .before .pre .1) (v .kept .1 .1 .1 .1 .0) (v .ensures)
+
+pub forward-byte-spec : {M : Type 1} → statement M
+forward-byte-spec =
+    tie.close
+    (tie.spec
+    (λ c. search needs)
+    (λ c. search needs)
+    (λ c. search needs)
+    (λ c. search needs)
+    (λ c. search needs)
+    (λ c. search needs)
+    (λ c. search needs)
+    (λ c. search needs)
+    (λ c κs. c .before .before .before .before .before .before .before .before .pre .2)
+    add-t14
+    add-t21
+    (λ c. search needs)
+    (λ c. search needs)
+    returns)
