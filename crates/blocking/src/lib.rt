@@ -10,6 +10,7 @@ pub mod laws;
 pub mod master;
 pub mod run;
 pub mod slave;
+mod step;
 
 // What a run returns: its answer, the parked call, how many words it took, and how many places of the log it filled.
 pub struct Ran {

@@ -3,8 +3,8 @@ use mathlib.Core.Path.{_≡_, sym, _∙_}
 use lib.ListN.{List·getD-eq-default}
 use Rattle.blocking.proofs.Stretches.{getD-default}
 use borrow.Author.Needs.{needs}
-use Rattle.blocking.proofs.run.byte_at.Statement.{statement}
-use Rattle.blocking.proofs.run.byte_at.Tie as tie
+use Rattle.blocking.proofs.step.byte_at.Statement.{statement}
+use Rattle.blocking.proofs.step.byte_at.Tie as tie
 
 returns : tie.Need-returns
 returns c = getD-default (c .before .before .args .bytes .now) (c .before .before .args .place) 0 0x21 (c .before .if1 .taken)

@@ -1,8 +1,8 @@
 -- `blocking::run::exchange` meets its contract.
 use mathlib.Core.Path.{_≡_, sym, _∙_}
 use borrow.Author.Needs.{needs}
-use Rattle.blocking.proofs.run.exchange.Statement.{statement}
-use Rattle.blocking.proofs.run.exchange.Tie as tie
+use Rattle.blocking.proofs.step.exchange.Statement.{statement}
+use Rattle.blocking.proofs.step.exchange.Tie as tie
 
 receive-byte-requires : tie.Need-receive-byte-requires
 receive-byte-requires c κs = (c .before .before .before .before .before .before .before .before .pre, sym (c .before .before .before .incoming .ensures) ∙ c .before .before .if1 .taken)

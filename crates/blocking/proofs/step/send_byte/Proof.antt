@@ -7,8 +7,8 @@ use Rattle.blocking.specs.declared.Turn.the-variants.{Again}
 use Rattle.blocking.proofs.Phased.{next-out, span-out}
 use Rattle.blocking.proofs.Stretches.{turned-over, turned-step, run-write, full-write, room-none}
 use borrow.Author.Needs.{needs}
-use Rattle.blocking.proofs.run.send_byte.Statement.{statement}
-use Rattle.blocking.proofs.run.send_byte.Tie as tie
+use Rattle.blocking.proofs.step.send_byte.Statement.{statement}
+use Rattle.blocking.proofs.step.send_byte.Tie as tie
 
 returns : tie.Need-returns
 returns c b ws =

@@ -6,8 +6,8 @@ use Rattle.parked.specs.declared.End.the-variants.{OutOfWords, LogFull}
 use Rattle.blocking.proofs.Phased.{next-wait}
 use Rattle.blocking.proofs.Stretches.{turned-over, turned-step, run-out, run-read, full-read, room-none}
 use borrow.Author.Needs.{needs}
-use Rattle.blocking.proofs.run.wait.Statement.{statement}
-use Rattle.blocking.proofs.run.wait.Tie as tie
+use Rattle.blocking.proofs.step.wait.Statement.{statement}
+use Rattle.blocking.proofs.step.wait.Tie as tie
 
 returns : tie.Need-returns
 returns c s b =

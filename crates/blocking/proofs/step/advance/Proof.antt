@@ -9,8 +9,8 @@ use Rattle.parked.specs.Wants.{wants}
 use Rattle.blocking.specs.Run.{next}
 use Rattle.blocking.proofs.Stretches.{turned-over, turned-step, run-over, run-out, run-read, run-write, full-read, full-write, room-none}
 use borrow.Author.Needs.{needs}
-use Rattle.blocking.proofs.run.advance.Statement.{statement}
-use Rattle.blocking.proofs.run.advance.Tie as tie
+use Rattle.blocking.proofs.step.advance.Statement.{statement}
+use Rattle.blocking.proofs.step.advance.Tie as tie
 
 -- the access that the code computes is the definition's
 move : (c : tie.After-wants) → next (c .before .before .before .before .before .before .before .args .send .now) (c .before .before .before .before .before .before .before .args .call) ≡ c .wants .result

@@ -2,8 +2,8 @@
 use mathlib.Core.Path.{_≡_, sym, _∙_}
 use lib.Seq.{set-out}
 use borrow.Author.Needs.{needs}
-use Rattle.blocking.proofs.run.keep_byte.Statement.{statement}
-use Rattle.blocking.proofs.run.keep_byte.Tie as tie
+use Rattle.blocking.proofs.step.keep_byte.Statement.{statement}
+use Rattle.blocking.proofs.step.keep_byte.Tie as tie
 
 returns : tie.Need-returns
 returns c = rw (c .before .before .if1 .taken, c .received .ensures)

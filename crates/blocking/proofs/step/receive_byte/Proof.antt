@@ -8,8 +8,8 @@ use Rattle.blocking.specs.declared.Turn.the-variants.{Again}
 use Rattle.blocking.proofs.Phased.{next-in, span-in, more-in}
 use Rattle.blocking.proofs.Stretches.{turned-over, turned-step, run-out, run-read, full-read, room-none}
 use borrow.Author.Needs.{needs}
-use Rattle.blocking.proofs.run.receive_byte.Statement.{statement}
-use Rattle.blocking.proofs.run.receive_byte.Tie as tie
+use Rattle.blocking.proofs.step.receive_byte.Statement.{statement}
+use Rattle.blocking.proofs.step.receive_byte.Tie as tie
 
 returns : tie.Need-returns
 returns c s =
