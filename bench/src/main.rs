@@ -5,6 +5,7 @@ mod both;
 mod count;
 mod original;
 mod ours;
+mod page;
 mod plot;
 mod rows;
 mod script;
@@ -20,7 +21,7 @@ use std::env::args;
 use std::fs::{read_to_string, write};
 use std::path::Path;
 
-const USAGE: &str = "bench count | bench write COUNTS ORIGINAL-SYMBOLS OUR-SYMBOLS TABLE PLOT";
+const USAGE: &str = "bench count | bench write COUNTS ORIGINAL-SYMBOLS OUR-SYMBOLS PAGE PLOT";
 
 fn main() {
     let words: Vec<String> = args().skip(1).collect();
@@ -32,12 +33,12 @@ fn main() {
     let all: Vec<&Row> = table.iter().chain(points.map(|(_, row)| row)).collect();
     match words[..] {
         ["count"] => count::run(&all),
-        ["write", counts, original, ours, to_table, to_plot] => {
+        ["write", counts, original, ours, page, to_plot] => {
             let counts = count::read(Path::new(counts), all.len());
             let (rows, points) = counts.split_at(table.len());
             let sizes = sizes::code(&listing(original), &listing(ours));
             let text = table::text(&machine(), &lines(&table, rows), &sizes, &sizes::state());
-            write(to_table, text).expect("the table is written");
+            write(page, page::with(&listing(page), &text)).expect("the table is written");
             write(to_plot, plot::svg(&panels(&curves, points))).expect("the plot is written");
         }
         _ => {
