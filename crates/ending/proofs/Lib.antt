@@ -2,6 +2,7 @@ pub mod Agree
 pub mod Histories
 pub mod Lists
 pub mod Needed
+pub mod NothingMore
 pub mod OneCall
 pub mod OneCheck
 pub mod OneStep
