@@ -9,7 +9,7 @@ use lib.ListN.{length, getElem?, replicate}
 use lib.Dec.{eqb, ltb}
 use Rattle.registers.specs.declared.isr.Flag.{Flag}
 use Rattle.registers.specs.declared.isr.Flag.the-variants.{Berr, Arlo, Nackf, Txis, Rxne, Stopf, Tc, Tcr, Addr, Nothing}
-use Rattle.registers.specs.Layout.{CR2, ISR, RXDR, DIR, START, RXDATA, _⟨_⟩, _has_}
+use Rattle.registers.specs.Layout.{Register, CR1, CR2, OAR1, OAR2, TIMINGR, ISR, ICR, RXDR, TXDR, DIR, START, RXDATA, _⟨_⟩, _has_}
 use Rattle.registers.specs.Flags.{takenAs}
 use Rattle.access.specs.Access.{Access, read, write}
 use Rattle.answers.specs.Answers.{Said, says}
@@ -84,6 +84,12 @@ module _ (b : Book) (a : Said) (accesses : List Access) (shown : List ℕ) where
       feed (record { call = checkIsrFlags; answer = a; accesses = read ISR isr ∷ rest; shown = shown }) b ≡ byFlag (takenAs isr) isr rest b
   check-rule isr rest q = rw q refl
 
+  -- one that read none leaves the book
+  wordless-rule : (r : Register) (v : ℕ) (rest : List Access) →
+      (feed (record { call = checkIsrFlags; answer = a; accesses = []; shown = shown }) b ≡ b)
+      × (feed (record { call = checkIsrFlags; answer = a; accesses = write r v ∷ rest; shown = shown }) b ≡ b)
+  wordless-rule r v rest = (either-way (isRefused a), either-way (isRefused a))
+
 -- BERR, ARLO, NACKF, STOPF, TCR and a word without a flag leave the book
 idle-flags : (isr : ℕ) (rest : List Access) (b : Book) →
     map (λ (f : Flag). byFlag f isr rest b) (Berr ∷ Arlo ∷ Nackf ∷ Stopf ∷ Tcr ∷ Nothing ∷ []) ≡ b ∷ b ∷ b ∷ b ∷ b ∷ b ∷ []
@@ -103,9 +109,12 @@ rxne-rule : (isr v : ℕ) (rest : List Access) (b : Book) →
     ≡ book (λ j. cond (eqb j (b .next)) (some (v ⟨ RXDATA ⟩)) (b .place j)) (b .next + 1) (b .count) (b .receiving) (b .afterRead) (b .errorsTold)
 rxne-rule isr v rest b = refl
 
--- where ISR is read again first, or nothing follows, nothing changes
-rxne-full-rule : (isr v : ℕ) (rest : List Access) (b : Book) → (byFlag Rxne isr (read ISR v ∷ rest) b ≡ b) × (byFlag Rxne isr [] b ≡ b)
-rxne-full-rule isr v rest b = (refl, refl)
+-- where ISR is read again first, or anything else or nothing follows, nothing changes
+rxne-else-rule : (isr v : ℕ) (r : Register) (rest : List Access) (b : Book) →
+    (map (λ (s : Register). byFlag Rxne isr (read s v ∷ rest) b) (ISR ∷ CR1 ∷ CR2 ∷ OAR1 ∷ OAR2 ∷ TIMINGR ∷ ICR ∷ TXDR ∷ []) ≡ replicate 8 b)
+    × (byFlag Rxne isr (write r v ∷ rest) b ≡ b)
+    × (byFlag Rxne isr [] b ≡ b)
+rxne-else-rule isr v r rest b = (refl, refl, refl)
 
 -- While not receiving, TXIS and TC raise next by 1 if it is below n; while receiving they leave the book.
 module _ (isr i n : ℕ) (place : ℕ → Option ℕ) (afterRead errorsTold : Bool) where
@@ -123,9 +132,11 @@ module _ (isr i n : ℕ) (place : ℕ → Option ℕ) (afterRead errorsTold : Bo
 tc-rule : (isr v : ℕ) (rest : List Access) (b : Book) → byFlag Tc isr (write CR2 v ∷ rest) b ≡ cond (v has START) (byTheBus (byFlag Txis isr rest b)) (byFlag Txis isr rest b)
 tc-rule isr v rest b = refl
 
-tc-short-rule : (isr v : ℕ) (rest : List Access) (b : Book) →
-    (byFlag Tc isr (read CR2 v ∷ rest) b ≡ byFlag Txis isr rest b) × (byFlag Tc isr [] b ≡ byFlag Txis isr [] b)
-tc-short-rule isr v rest b = (refl, refl)
+tc-else-rule : (isr v : ℕ) (r : Register) (rest : List Access) (b : Book) →
+    (map (λ (s : Register). byFlag Tc isr (write s v ∷ rest) b) (ISR ∷ CR1 ∷ OAR1 ∷ OAR2 ∷ TIMINGR ∷ ICR ∷ RXDR ∷ TXDR ∷ []) ≡ replicate 8 (byFlag Txis isr rest b))
+    × (byFlag Tc isr (read r v ∷ rest) b ≡ byFlag Txis isr rest b)
+    × (byFlag Tc isr [] b ≡ byFlag Txis isr [] b)
+tc-else-rule isr v r rest b = (refl, refl, refl)
 
 -- the calls by their roles: which calls write and how many bytes, which call reads, and which ones the book does not know
 roles : (address n : ℕ) (bytes : List ℕ) (on : Bool) →

@@ -9,6 +9,7 @@ pub mod OneCheck
 pub mod OneStep
 pub mod Outcomes
 pub mod Premises
+pub mod Promises
 pub mod Runs
 pub mod Settling
 pub mod StartSet
