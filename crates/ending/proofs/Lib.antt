@@ -1,4 +1,5 @@
 pub mod Agree
+pub mod AtACall
 pub mod BookRules
 pub mod Histories
 pub mod Lists
