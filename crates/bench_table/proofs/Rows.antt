@@ -1,0 +1,82 @@
+-- The rows once more, in numbers alone: what goes in, and what must come out. The statement holds of every true row, so a row that is changed on
+-- both sides, or left out, would be proved as well; here it is refused.
+use Prim.Native.Nat.{ℕ}
+use mathlib.Core.Path.{_≡_, refl}
+use mathlib.Core.List.{List, [], _∷_, _++_, map}
+use lib.ListN.{length, getD}
+use Rattle.fields.specs.Field.{digit}
+use Rattle.registers.specs.declared.config.Config.{Config}
+use Rattle.registers.specs.Layout.{offset}
+use Rattle.registers.specs.Config.{maskNumber}
+use Rattle.ending.specs.Call.{Call, Step, masterWrite, masterWriteRead, masterRead, slaveWrite, checkIsrFlags, executeWatchdog, getErrorsReset, masterGetData, slaveGetData, getAddress, listen, unlisten, slaveSbc, setAddress}
+use Rattle.bench_table.specs.Table.{Driver, nonBlocking, blocking, Case, timing, sclPeriod, constructed, answer, log, Row, table}
+
+-- the non-blocking driver is 0, the blocking one 1
+abbrev driverNumber : Driver → ℕ
+driverNumber nonBlocking = 0
+driverNumber blocking = 1
+
+-- the own address and whether it has ten bits, the second address and how many of its bits are masked
+abbrev addresses : Config → List ℕ
+addresses c = c .«slave_address_1» ∷ digit (c .«address_11bits») ∷ c .«slave_address_2» ∷ maskNumber (c .«slave_address_mask») ∷ []
+
+-- 1: `master_write`, with the address, the number of bytes and the first two of them; 2: a check; 3: `get_errors_reset`; the table has no other
+abbrev callNumbers : Call → List ℕ
+callNumbers (masterWrite address bytes) = 1 ∷ address ∷ length bytes ∷ getD bytes 0 0 ∷ getD bytes 1 0 ∷ []
+callNumbers (masterWriteRead address bytes n) = []
+callNumbers (masterRead address n) = []
+callNumbers (slaveWrite bytes) = []
+callNumbers checkIsrFlags = 2 ∷ []
+callNumbers executeWatchdog = []
+callNumbers getErrorsReset = 3 ∷ []
+callNumbers masterGetData = []
+callNumbers slaveGetData = []
+callNumbers getAddress = []
+callNumbers listen = []
+callNumbers unlisten = []
+callNumbers (slaveSbc on) = []
+callNumbers (setAddress address) = []
+
+-- a call, then the words that it reads
+abbrev stepNumbers : Step → List ℕ
+stepNumbers s = callNumbers (s .call) ++ s .words
+
+abbrev stepsNumbers : List Step → List ℕ
+stepsNumbers [] = []
+stepsNumbers (s ∷ ss) = stepNumbers s ++ stepsNumbers ss
+
+-- 1: a timing, at this speed and clock; 2: the period of this word; 3: what a driver writes to this register; 4: an answer; 5: a log
+abbrev caseNumbers : Case → List ℕ
+caseNumbers (timing speed clock) = 1 ∷ speed ∷ clock ∷ []
+caseNumbers (sclPeriod word) = 2 ∷ word ∷ []
+caseNumbers (constructed driver config register) = 3 ∷ driverNumber driver ∷ addresses config ++ offset register ∷ []
+caseNumbers (answer before call) = 4 ∷ stepsNumbers before ++ stepNumbers call
+caseNumbers (log before call) = 5 ∷ stepsNumbers before ++ stepNumbers call
+
+abbrev numbersOf : Row → List ℕ × List ℕ
+numbersOf row = (caseNumbers (row .case), row .must)
+
+rows : map numbersOf table
+    ≡ (1 ∷ 100_000 ∷ 16_000_000 ∷ [], 0 ∷ 0x30420F13 ∷ [])
+    ∷ (2 ∷ 0x30420F13 ∷ [], 144 ∷ [])
+    ∷ (1 ∷ 100_000 ∷ 4_000_000 ∷ [], 0 ∷ 0x30420004 ∷ [])
+    ∷ (1 ∷ 100_000 ∷ 3_999_999 ∷ [], 7 ∷ [])
+    ∷ (1 ∷ 400_000 ∷ 64_000_000 ∷ [], 0 ∷ 0x10312127 ∷ [])
+    ∷ (1 ∷ 400_000 ∷ 11_200_000 ∷ [], 0 ∷ 0x10310006 ∷ [])
+    ∷ (1 ∷ 400_000 ∷ 11_199_999 ∷ [], 7 ∷ [])
+    ∷ (3 ∷ 0 ∷ 0x2A ∷ 0 ∷ 0 ∷ 0 ∷ 0x08 ∷ [], 0x8054 ∷ [])
+    ∷ (3 ∷ 1 ∷ 0x2A ∷ 0 ∷ 0 ∷ 0 ∷ 0x08 ∷ [], 0x8054 ∷ [])
+    ∷ (3 ∷ 0 ∷ 0x123 ∷ 1 ∷ 0 ∷ 0 ∷ 0x08 ∷ [], 0x8523 ∷ [])
+    ∷ (3 ∷ 1 ∷ 0x123 ∷ 1 ∷ 0 ∷ 0 ∷ 0x08 ∷ [], 0x8446 ∷ [])
+    ∷ (3 ∷ 0 ∷ 0 ∷ 0 ∷ 0x30 ∷ 1 ∷ 0x0C ∷ [], 0x8160 ∷ [])
+    ∷ (3 ∷ 1 ∷ 0 ∷ 0 ∷ 0x30 ∷ 1 ∷ 0x0C ∷ [], 0x8160 ∷ [])
+    ∷ (5 ∷ 1 ∷ 0x50 ∷ 2 ∷ 1 ∷ 2 ∷ 0 ∷ 0 ∷ [], 0x004 ∷ 0 ∷ 0x004 ∷ 0 ∷ 0x104 ∷ 0x020220A0 ∷ [])
+    ∷ (4 ∷ 1 ∷ 0x50 ∷ 0 ∷ 0 ∷ 0 ∷ 0 ∷ 0 ∷ [], 6 ∷ [])
+    ∷ (4 ∷ 1 ∷ 0x50 ∷ 0 ∷ 0 ∷ 0 ∷ 0x2000 ∷ 0x2000 ∷ [], 1 ∷ [])
+    ∷ (4 ∷ 2 ∷ 0x20 ∷ [], 2 ∷ [])
+    ∷ (4 ∷ 2 ∷ 0x20 ∷ 3 ∷ [], 0x45 ∷ 1 ∷ [])
+    ∷ (4 ∷ 1 ∷ 0x50 ∷ 255 ∷ 1 ∷ 1 ∷ 0 ∷ 0 ∷ [], 0 ∷ [])
+    ∷ (4 ∷ 1 ∷ 0x50 ∷ 256 ∷ 1 ∷ 1 ∷ 0 ∷ 0 ∷ [], 6 ∷ [])
+    ∷ []
+unfolding table
+rows = refl
