@@ -1,15 +1,22 @@
--- The rows once more, in numbers alone: what goes in, and what must come out. The statement holds of every true row, so a row that is changed on
--- both sides, or left out, would be proved as well; here it is refused.
-use Prim.Native.Nat.{ℕ}
+-- The rows once more, in numbers alone: what goes in, and what must come out; and what each kind of row is of. The statement holds of every true
+-- row, so a row that is changed on both sides, or left out, would be proved as well; here it is refused.
+use Prim.Native.Nat.{ℕ, _+_}
 use mathlib.Core.Path.{_≡_, refl}
 use mathlib.Core.List.{List, [], _∷_, _++_, map}
 use lib.ListN.{length, getD}
 use Rattle.fields.specs.Field.{digit}
 use Rattle.registers.specs.declared.config.Config.{Config}
-use Rattle.registers.specs.Layout.{offset}
-use Rattle.registers.specs.Config.{maskNumber}
+use Rattle.registers.specs.declared.config.Setting.the-variants.{Unset, Set}
+use Rattle.registers.specs.Layout.{Register, offset}
+use Rattle.registers.specs.Config.{maskNumber, plain, timingBits, period}
+use Rattle.access.specs.Access.{entries}
+use Rattle.ending.specs.Link.{fresh}
+use Rattle.ending.specs.Outcome.{outcome}
+use Rattle.ending.specs.EqualEnding.{ran}
+use Rattle.nonblocking.specs.Construct.{construction as nonBlockingConstruction}
+use Rattle.blocking.specs.Construct.{construction as blockingConstruction}
 use Rattle.ending.specs.Call.{Call, Step, masterWrite, masterWriteRead, masterRead, slaveWrite, checkIsrFlags, executeWatchdog, getErrorsReset, masterGetData, slaveGetData, getAddress, listen, unlisten, slaveSbc, setAddress}
-use Rattle.bench_table.specs.Table.{Driver, nonBlocking, blocking, Case, timing, sclPeriod, constructed, answer, log, Row, table}
+use Rattle.bench_table.specs.Table.{Driver, nonBlocking, blocking, Case, timing, sclPeriod, constructed, answer, log, beside, gives, Row, table}
 
 -- the non-blocking driver is 0, the blocking one 1
 abbrev driverNumber : Driver → ℕ
@@ -80,3 +87,25 @@ rows : map numbersOf table
     ∷ []
 unfolding table
 rows = refl
+
+-- What each kind of row is of: the timing word, the period, what construction writes to a register, and the answer or the log of a call.
+timing-row : (speed clock : ℕ) → gives (timing speed clock) ≡ timingBits (plain (Set speed) Unset) clock .number ∷ timingBits (plain (Set speed) Unset) clock .values
+timing-row speed clock = refl
+
+period-row : (word : ℕ) → gives (sclPeriod word) ≡ period word ∷ []
+period-row word = refl
+
+-- the clock is 16 MHz, each word read is 0, and the log has 100 places
+written-row : (config : Config) (register : Register) →
+    (gives (constructed nonBlocking config register) ≡ beside (offset register + 0x100) (nonBlockingConstruction config 16_000_000 (0 ∷ 0 ∷ 0 ∷ 0 ∷ []) 100 .numbers))
+    × (gives (constructed blocking config register) ≡ beside (offset register + 0x100) (blockingConstruction config 16_000_000 (0 ∷ 0 ∷ 0 ∷ 0 ∷ []) 100 .numbers))
+written-row config register = (refl, refl)
+
+words-beside : (a b c : ℕ) → beside 0x108 (0x108 ∷ a ∷ 0x100 ∷ b ∷ 0x108 ∷ c ∷ 0x108 ∷ []) ≡ a ∷ c ∷ []
+words-beside a b c = refl
+
+answer-row : (before : List Step) (call : Step) → gives (answer before call) ≡ outcome call (ran fresh before) .answer .number ∷ outcome call (ran fresh before) .answer .values
+answer-row before call = refl
+
+log-row : (before : List Step) (call : Step) → gives (log before call) ≡ entries (outcome call (ran fresh before) .accesses)
+log-row before call = refl
