@@ -26,3 +26,7 @@ bytes-shown : (x y z : ℕ) →
     map (λ (n : ℕ). countShown (says n (x ∷ y ∷ z ∷ []))) (0x44 ∷ 0x47 ∷ 0x41 ∷ 0x45 ∷ 0x4E ∷ 0 ∷ 1 ∷ 2 ∷ 3 ∷ 4 ∷ 5 ∷ 6 ∷ 7 ∷ 8 ∷ 9 ∷ 10 ∷ 11 ∷ 12 ∷ [])
     ≡ z ∷ x ∷ replicate 16 0
 bytes-shown x y z = refl
+
+-- without values they show none
+none-shown : map countShown (says 0x44 [] ∷ says 0x47 [] ∷ []) ≡ 0 ∷ 0 ∷ []
+none-shown = refl
