@@ -6,6 +6,7 @@ use mathlib.Core.List.{List, [], _∷_, _++_, map}
 use lib.ListN.{length, getD}
 use Rattle.fields.specs.Field.{digit}
 use Rattle.registers.specs.declared.config.Config.{Config}
+use Rattle.registers.specs.declared.config.Setting.{Setting}
 use Rattle.registers.specs.declared.config.Setting.the-variants.{Unset, Set}
 use Rattle.registers.specs.Layout.{Register, offset}
 use Rattle.registers.specs.Config.{maskNumber, plain, timingBits, period}
@@ -23,9 +24,13 @@ abbrev driverNumber : Driver → ℕ
 driverNumber nonBlocking = 0
 driverNumber blocking = 1
 
--- the own address and whether it has ten bits, the second address and how many of its bits are masked
-abbrev addresses : Config → List ℕ
-addresses c = c .«slave_address_1» ∷ digit (c .«address_11bits») ∷ c .«slave_address_2» ∷ maskNumber (c .«slave_address_mask») ∷ []
+-- the speed, the own address and whether it has ten bits, the second address and how many of its bits are masked
+abbrev speedOf : Setting → ℕ
+speedOf Unset = 0
+speedOf (Set speed) = speed
+
+abbrev configNumbers : Config → List ℕ
+configNumbers c = speedOf (c .speed) ∷ c .«slave_address_1» ∷ digit (c .«address_11bits») ∷ c .«slave_address_2» ∷ maskNumber (c .«slave_address_mask») ∷ []
 
 -- 1: `master_write`, with the address, the number of bytes and the first two of them; 2: a check; 3: `get_errors_reset`; the table has no other
 abbrev callNumbers : Call → List ℕ
@@ -44,9 +49,9 @@ callNumbers unlisten = []
 callNumbers (slaveSbc on) = []
 callNumbers (setAddress address) = []
 
--- a call, then the words that it reads
+-- a call, then the words that it reads, and the places of its log
 abbrev stepNumbers : Step → List ℕ
-stepNumbers s = callNumbers (s .call) ++ s .words
+stepNumbers s = callNumbers (s .call) ++ s .words ++ s .places ∷ []
 
 abbrev stepsNumbers : List Step → List ℕ
 stepsNumbers [] = []
@@ -56,7 +61,7 @@ stepsNumbers (s ∷ ss) = stepNumbers s ++ stepsNumbers ss
 abbrev caseNumbers : Case → List ℕ
 caseNumbers (timing speed clock) = 1 ∷ speed ∷ clock ∷ []
 caseNumbers (sclPeriod word) = 2 ∷ word ∷ []
-caseNumbers (constructed driver config register) = 3 ∷ driverNumber driver ∷ addresses config ++ offset register ∷ []
+caseNumbers (constructed driver config register) = 3 ∷ driverNumber driver ∷ configNumbers config ++ offset register ∷ []
 caseNumbers (answer before call) = 4 ∷ stepsNumbers before ++ stepNumbers call
 caseNumbers (log before call) = 5 ∷ stepsNumbers before ++ stepNumbers call
 
@@ -71,19 +76,19 @@ rows : map numbersOf table
     ∷ (1 ∷ 400_000 ∷ 64_000_000 ∷ [], 0 ∷ 0x10312127 ∷ [])
     ∷ (1 ∷ 400_000 ∷ 11_200_000 ∷ [], 0 ∷ 0x10310006 ∷ [])
     ∷ (1 ∷ 400_000 ∷ 11_199_999 ∷ [], 7 ∷ [])
-    ∷ (3 ∷ 0 ∷ 0x2A ∷ 0 ∷ 0 ∷ 0 ∷ 0x08 ∷ [], 0x8054 ∷ [])
-    ∷ (3 ∷ 1 ∷ 0x2A ∷ 0 ∷ 0 ∷ 0 ∷ 0x08 ∷ [], 0x8054 ∷ [])
-    ∷ (3 ∷ 0 ∷ 0x123 ∷ 1 ∷ 0 ∷ 0 ∷ 0x08 ∷ [], 0x8523 ∷ [])
-    ∷ (3 ∷ 1 ∷ 0x123 ∷ 1 ∷ 0 ∷ 0 ∷ 0x08 ∷ [], 0x8446 ∷ [])
-    ∷ (3 ∷ 0 ∷ 0 ∷ 0 ∷ 0x30 ∷ 1 ∷ 0x0C ∷ [], 0x8160 ∷ [])
-    ∷ (3 ∷ 1 ∷ 0 ∷ 0 ∷ 0x30 ∷ 1 ∷ 0x0C ∷ [], 0x8160 ∷ [])
-    ∷ (5 ∷ 1 ∷ 0x50 ∷ 2 ∷ 1 ∷ 2 ∷ 0 ∷ 0 ∷ [], 0x004 ∷ 0 ∷ 0x004 ∷ 0 ∷ 0x104 ∷ 0x020220A0 ∷ [])
-    ∷ (4 ∷ 1 ∷ 0x50 ∷ 0 ∷ 0 ∷ 0 ∷ 0 ∷ 0 ∷ [], 6 ∷ [])
-    ∷ (4 ∷ 1 ∷ 0x50 ∷ 0 ∷ 0 ∷ 0 ∷ 0x2000 ∷ 0x2000 ∷ [], 1 ∷ [])
-    ∷ (4 ∷ 2 ∷ 0x20 ∷ [], 2 ∷ [])
-    ∷ (4 ∷ 2 ∷ 0x20 ∷ 3 ∷ [], 0x45 ∷ 1 ∷ [])
-    ∷ (4 ∷ 1 ∷ 0x50 ∷ 255 ∷ 1 ∷ 1 ∷ 0 ∷ 0 ∷ [], 0 ∷ [])
-    ∷ (4 ∷ 1 ∷ 0x50 ∷ 256 ∷ 1 ∷ 1 ∷ 0 ∷ 0 ∷ [], 6 ∷ [])
+    ∷ (3 ∷ 0 ∷ 100_000 ∷ 0x2A ∷ 0 ∷ 0 ∷ 0 ∷ 0x08 ∷ [], 0x8054 ∷ [])
+    ∷ (3 ∷ 1 ∷ 100_000 ∷ 0x2A ∷ 0 ∷ 0 ∷ 0 ∷ 0x08 ∷ [], 0x8054 ∷ [])
+    ∷ (3 ∷ 0 ∷ 100_000 ∷ 0x123 ∷ 1 ∷ 0 ∷ 0 ∷ 0x08 ∷ [], 0x8523 ∷ [])
+    ∷ (3 ∷ 1 ∷ 100_000 ∷ 0x123 ∷ 1 ∷ 0 ∷ 0 ∷ 0x08 ∷ [], 0x8446 ∷ [])
+    ∷ (3 ∷ 0 ∷ 100_000 ∷ 0 ∷ 0 ∷ 0x30 ∷ 1 ∷ 0x0C ∷ [], 0x8160 ∷ [])
+    ∷ (3 ∷ 1 ∷ 100_000 ∷ 0 ∷ 0 ∷ 0x30 ∷ 1 ∷ 0x0C ∷ [], 0x8160 ∷ [])
+    ∷ (5 ∷ 1 ∷ 0x50 ∷ 2 ∷ 1 ∷ 2 ∷ 0 ∷ 0 ∷ 100 ∷ [], 0x004 ∷ 0 ∷ 0x004 ∷ 0 ∷ 0x104 ∷ 0x020220A0 ∷ [])
+    ∷ (4 ∷ 1 ∷ 0x50 ∷ 0 ∷ 0 ∷ 0 ∷ 0 ∷ 0 ∷ 100 ∷ [], 6 ∷ [])
+    ∷ (4 ∷ 1 ∷ 0x50 ∷ 0 ∷ 0 ∷ 0 ∷ 0x2000 ∷ 0x2000 ∷ 100 ∷ [], 1 ∷ [])
+    ∷ (4 ∷ 2 ∷ 0x20 ∷ 100 ∷ [], 2 ∷ [])
+    ∷ (4 ∷ 2 ∷ 0x20 ∷ 100 ∷ 3 ∷ 100 ∷ [], 0x45 ∷ 1 ∷ [])
+    ∷ (4 ∷ 1 ∷ 0x50 ∷ 255 ∷ 1 ∷ 1 ∷ 0 ∷ 0 ∷ 100 ∷ [], 0 ∷ [])
+    ∷ (4 ∷ 1 ∷ 0x50 ∷ 256 ∷ 1 ∷ 1 ∷ 0 ∷ 0 ∷ 100 ∷ [], 6 ∷ [])
     ∷ []
 unfolding table
 rows = refl
