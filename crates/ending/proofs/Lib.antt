@@ -1,12 +1,16 @@
 pub mod Agree
+pub mod AtACall
+pub mod BookRules
 pub mod Histories
 pub mod Lists
 pub mod Needed
+pub mod NothingMore
 pub mod OneCall
 pub mod OneCheck
 pub mod OneStep
 pub mod Outcomes
 pub mod Premises
+pub mod Promises
 pub mod Runs
 pub mod Settling
 pub mod StartSet

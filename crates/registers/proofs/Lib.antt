@@ -1,1 +1,2 @@
 pub mod FlagOrder
+pub mod Places
