@@ -42,8 +42,8 @@ module _ (s : List ℕ) (p : Parked) (b ws vs : List ℕ) (n k m : ℕ) where
       (L .joins s p b (record { words = ws; room = n }) (record { words = vs; room = k } ∷ []) m) h
 
 -- an access has two numbers in the log
-two-numbers : (a v b w : ℕ) → accesses (a ∷ v ∷ b ∷ w ∷ []) ≡ 2
-two-numbers a v b w = refl
+two-numbers : (a v b w : ℕ) → (accesses (a ∷ v ∷ b ∷ w ∷ []) ≡ 2) × (accesses (a ∷ []) ≡ 0)
+two-numbers a v b w = (refl, refl)
 
 -- a run changes no place of the buffer but those of the bytes that came in, one after the other; the count says the next place
 bytes-kept : BufferLaw → (s : List ℕ) (n : ℕ) (p : Parked) (b ws : List ℕ) →

@@ -1,6 +1,6 @@
 -- What a driver needs to know of fields, over place and width: a field get back, other fields untouched, words that stay below 2 ^ 32.
 use mathlib.Core.Path.{_≡_, refl, sym, ap, _∙_}
-use mathlib.Core.Logic.{⊎-elim}
+use mathlib.Core.Logic.{_⊎_, ⊎-elim}
 use Prim.Native.Nat.{ℕ, _+_, _-_, _*_, _/_, _%_, _^_, _≤_, _<_}
 use native.Mathlib.Nat.{mod-lt, mod-mod, add-comm}
 use native.Mathlib.Omega.{arith}
@@ -78,3 +78,10 @@ module _ (w : ℕ) (f : Field) (v : ℕ) (inside : InWord f) (fits : w < 2 ^ 32)
   -- other fields are untouched
   pub get-other : (g : Field) → Apart f g → get (put w f v) g ≡ get w g
   get-other g = ⊎-elim (λ h. get-upper g (omega arith)) (λ h. get-lower g (omega arith))
+
+-- The laws above are of every field that ends with the word's last bit or before it, and of every two fields with no bit in common.
+every-field : (f : Field) → f .place + f .width ≤ 32 → InWord f
+every-field f inside = inside
+
+every-two : (f g : Field) → (f .place + f .width ≤ g .place) ⊎ (g .place + g .width ≤ f .place) → Apart f g
+every-two f g apart = apart
