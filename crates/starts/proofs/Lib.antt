@@ -1,1 +1,2 @@
+pub mod NoWord
 pub mod Laid

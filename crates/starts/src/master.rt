@@ -10,9 +10,8 @@ use crate::bytes::copy_in;
 use crate::good_length;
 use crate::impossible;
 use access::Report;
+use access::accessed;
 use access::refused;
-use access::settle;
-use access::word_at;
 use answers::Answer;
 use registers::cr2::Cr2;
 use registers::data::Rxdr;
@@ -40,17 +39,23 @@ pub fn write_fields(
     if impossible(*index, *length, *length_write_read, *watchdog) {
         return refused(Answer::ImpossibleLink);
     }
-    let busy = word_at(words, 0);
+    if words.len() < 1 {
+        return refused(Answer::OutOfWords);
+    }
+    let busy = words[0];
     // Check if the bus is free.
     if Cr2::starting(busy) {
         let entries = [Cr2::READ, busy];
-        return settle(Answer::Pending, 1, &entries, words, log);
+        return accessed(Answer::Pending, 1, &entries, log);
     }
     if good_length(bytes) {
-        let cr2 = word_at(words, 1);
+        if words.len() < 2 {
+            return refused(Answer::OutOfWords);
+        }
+        let cr2 = words[1];
         let start = Cr2::started(cr2, Cr2::sadd16(addr), bytes.len(), false, autoend);
         let entries = [Cr2::READ, busy, Cr2::READ, cr2, Cr2::WRITE, start];
-        let report = settle(Answer::Done, 2, &entries, words, log);
+        let report = accessed(Answer::Done, 2, &entries, log);
         if report.logged == 0 {
             return report;
         }
@@ -63,7 +68,7 @@ pub fn write_fields(
         return report;
     }
     let entries = [Cr2::READ, busy];
-    settle(Answer::BadLength, 1, &entries, words, log)
+    accessed(Answer::BadLength, 1, &entries, log)
 }
 
 // A read over a link's fields, lent one by one. The part of the buffer that it is to fill is cleared; RXDR is read to flush it.
@@ -87,14 +92,20 @@ pub fn read_fields(
     if impossible(*index, *length, length_write_read, *watchdog) {
         return refused(Answer::ImpossibleLink);
     }
-    let busy = word_at(words, 0);
+    if words.len() < 1 {
+        return refused(Answer::OutOfWords);
+    }
+    let busy = words[0];
     if Cr2::starting(busy) {
         let entries = [Cr2::READ, busy];
-        return settle(Answer::Pending, 1, &entries, words, log);
+        return accessed(Answer::Pending, 1, &entries, log);
+    }
+    if words.len() < 3 {
+        return refused(Answer::OutOfWords);
     }
     let n = read_len as usize;
-    let flushed = word_at(words, 1);
-    let cr2 = word_at(words, 2);
+    let flushed = words[1];
+    let cr2 = words[2];
     let start = Cr2::started(cr2, Cr2::sadd16(addr), n, true, true);
     let entries = [
         Cr2::READ,
@@ -106,7 +117,7 @@ pub fn read_fields(
         Cr2::WRITE,
         start,
     ];
-    let report = settle(Answer::Done, 3, &entries, words, log);
+    let report = accessed(Answer::Done, 3, &entries, log);
     if report.logged == 0 {
         return report;
     }
