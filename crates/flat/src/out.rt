@@ -145,6 +145,35 @@ pub fn put_errors(report: Report, out: &mut [u64; 6])
     }
 }
 
+// After a run of the blocking driver.
+pub fn put_ran(report: Report, out: &mut [u64; 6])
+    ensures { λ _. ⌜ now (out .exit) ≡ flat report ⌝ }
+{
+    let taken = report.taken;
+    let logged = report.logged;
+    let answer = report.answer;
+    match answer {
+        Answer::Done => fill(out, 0, taken, logged, 0, 0, 0),
+        Answer::Nack => fill(out, 2, taken, logged, 0, 0, 0),
+        Answer::BusError => fill(out, 3, taken, logged, 0, 0, 0),
+        Answer::ArbitrationLost => fill(out, 4, taken, logged, 0, 0, 0),
+        Answer::IncorrectFrameSize(count) => fill(out, 5, taken, logged, count, 0, 0),
+        Answer::OutOfWords => fill(out, 9, taken, logged, 0, 0, 0),
+        Answer::LogFull => fill(out, 10, taken, logged, 0, 0, 0),
+        Answer::WrongCall => fill(out, 11, taken, logged, 0, 0, 0),
+        Answer::Addressed { address, direction } => fill(
+            out,
+            0x41,
+            taken,
+            logged,
+            address as usize,
+            direction.number() as usize,
+            0,
+        ),
+        _ => put(report, out),
+    }
+}
+
 fn fill(
     out: &mut [u64; 6],
     number: usize,

@@ -10,4 +10,4 @@ returns-2 : tie.Need-returns-2
 returns-2 c = rw (c .before .before .enum-told .given .1) (c .fill2 .ensures)
 
 pub put-errors-spec : {M : Type 1} → statement M
-put-errors-spec = tie.close (tie.spec (λ c. search needs) (λ c. search needs) (λ c κs. search needs) (λ c. search needs) (λ c κs. search needs) (λ c κs. search needs) returns returns-2 (λ c. search needs))
+put-errors-spec = tie.close (tie.spec (λ c. search needs) (λ c. search needs) (λ c κs. tt) (λ c. search needs) (λ c κs. tt) (λ c κs. tt) returns returns-2 (λ c. search needs))

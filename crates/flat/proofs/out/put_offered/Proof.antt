@@ -19,4 +19,4 @@ returns-5 : tie.Need-returns-5
 returns-5 c = rw (c .before .before .enum-told5 .given .1) (c .fill5 .ensures)
 
 pub put-offered-spec : {M : Type 1} → statement M
-put-offered-spec = tie.close (tie.spec (λ c. search needs) (λ c κs. search needs) (λ c. search needs) (λ c κs. search needs) (λ c. search needs) (λ c κs. search needs) (λ c. search needs) (λ c κs. search needs) (λ c. search needs) (λ c κs. search needs) (λ c κs. search needs) returns returns-2 returns-3 returns-4 returns-5 (λ c. search needs))
+put-offered-spec = tie.close (tie.spec (λ c. search needs) (λ c κs. tt) (λ c. search needs) (λ c κs. tt) (λ c. search needs) (λ c κs. tt) (λ c. search needs) (λ c κs. tt) (λ c. search needs) (λ c κs. tt) (λ c κs. tt) returns returns-2 returns-3 returns-4 returns-5 (λ c. search needs))
