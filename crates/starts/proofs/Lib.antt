@@ -1,2 +1,3 @@
-pub mod NoWord
 pub mod Laid
+pub mod NoWord
+pub mod Stored

@@ -11,7 +11,7 @@ use Rattle.ending.specs.Link.{linkAt}
 use Rattle.ending.specs.Plan.{after, onTcAt}
 use Rattle.ending.proofs.Settling.{kept, gone, short}
 use borrow.Author.Needs.{needs}
-use Rattle.checks.proofs.Stored.{four, second, third, fourth, full, stored}
+use Rattle.starts.proofs.Stored.{four, second, third, fourth, full, stored}
 use Rattle.checks.proofs.steps.on_tc.Statement.{statement}
 use Rattle.checks.proofs.steps.on_tc.Tie as tie
 
@@ -34,13 +34,13 @@ returns-2 c =
     (full (after (read ISR (getD ws 0 0)) (onTcAt true (c .before .before .before .before .raised .result) (getD ws 1 0) l)) l ws (c .before .before .if2 .left) (c .before .if3 .taken) (c .refused2 .ensures))
 
 slice-write-log-2 : tie.Need-slice-write-log-2
-slice-write-log-2 c = second 0x18 (c .before .before .before .before .before .before .before .before .before .args .log .now) (c .before .if3 .left)
+slice-write-log-2 c = second 0x18 (c .before .before .before .before .before .before .before .before .before .args .log .now) (omega (arith, c .before .if3 .left))
 
 slice-write-log-3 : tie.Need-slice-write-log-3
-slice-write-log-3 c = third 0x18 (getD (c .before .before .before .before .before .before .before .before .before .before .args .words .now) 0 0) (c .before .before .before .before .before .before .before .before .before .before .args .log .now) (c .before .before .if3 .left)
+slice-write-log-3 c = third 0x18 (getD (c .before .before .before .before .before .before .before .before .before .before .args .words .now) 0 0) (c .before .before .before .before .before .before .before .before .before .before .args .log .now) (omega (arith, c .before .before .if3 .left))
 
 slice-write-log-4 : tie.Need-slice-write-log-4
-slice-write-log-4 c = fourth 0x18 (getD (c .before .before .before .before .before .before .before .before .before .before .before .before .args .words .now) 0 0) 0x104 (c .before .before .before .before .before .before .before .before .before .before .before .before .args .log .now) (c .before .before .before .before .if3 .left)
+slice-write-log-4 c = fourth 0x18 (getD (c .before .before .before .before .before .before .before .before .before .before .before .before .args .words .now) 0 0) 0x104 (c .before .before .before .before .before .before .before .before .before .before .before .before .args .log .now) (omega (arith, c .before .before .before .before .if3 .left))
 
 returns-3 : tie.Need-returns-3
 returns-3 c =
