@@ -12,6 +12,7 @@ ghost use Rattle.ending.specs.Plan.{raised};
 ghost use Rattle.ending.specs.Arms.{Arm};
 ghost use lib.Dec.{ltb};
 use access::Report;
+use access::refused;
 use access::settle;
 use access::word_at;
 use answers::Answer;
@@ -116,8 +117,8 @@ pub(crate) fn on_rxne(
 {
     let i = *index;
     let isr = word_at(words, 0);
-    let next = word_at(words, 1);
     if i < length {
+        let next = word_at(words, 1);
         let entries = [Isr::READ, isr, Rxdr::READ, next];
         let report = settle(Answer::Pending, 2, &entries, words, log);
         if report.logged == 0 {
@@ -127,6 +128,7 @@ pub(crate) fn on_rxne(
         *index = i + 1;
         return report;
     }
+    let next = word_at(words, 1);
     if Isr::RXNE.is_set(next) {
         let entries = [
             Isr::READ,
@@ -190,16 +192,26 @@ pub(crate) fn on_tc(
 {
     let count = raised(*index, *length);
     if count == *length {
-        let cr2 = Cr2::started(0, Cr2::sadd16(address), *length_write_read, true, true);
-        let entries = [Isr::READ, word_at(words, 0), Cr2::WRITE, cr2];
-        let report = settle(Answer::Pending, 1, &entries, words, log);
-        if report.logged == 0 {
-            return report;
+        if words.len() < 1 {
+            return refused(Answer::OutOfWords);
         }
-        *length = *length_write_read;
+        if log.len() < 4 {
+            return refused(Answer::LogFull);
+        }
+        log[0] = Isr::READ;
+        log[1] = words[0];
+        // Read only now: held since the test of the link, it would cost the other flags a register.
+        let second = *length_write_read;
+        log[2] = Cr2::WRITE;
+        log[3] = Cr2::started(0, Cr2::sadd16(address), second, true, true);
+        *length = second;
         *length_write_read = 0;
         *index = 0;
-        return report;
+        return Report {
+            answer: Answer::Pending,
+            taken: 1,
+            logged: 4,
+        };
     }
     let cr2 = word_at(words, 1);
     let entries = [

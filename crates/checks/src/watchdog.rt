@@ -8,9 +8,8 @@ ghost use Rattle.ending.specs.Call.{executeWatchdog};
 ghost use Rattle.ending.specs.Outcome.{outcome, Matches};
 use crate::steps::one_more;
 use access::Report;
+use access::accessed;
 use access::refused;
-use access::settle;
-use access::word_at;
 use answers::Answer;
 use registers::cr1::Cr1;
 use starts::impossible;
@@ -36,9 +35,12 @@ pub fn watchdog_fields(
         return refused(Answer::Done);
     }
     if left == 1 {
-        let cr1 = word_at(words, 0);
-        let waited = word_at(words, 1);
-        let again = word_at(words, 2);
+        if words.len() < 3 {
+            return refused(Answer::OutOfWords);
+        }
+        let cr1 = words[0];
+        let waited = words[1];
+        let again = words[2];
         let entries = [
             Cr1::READ,
             cr1,
@@ -51,7 +53,7 @@ pub fn watchdog_fields(
             Cr1::WRITE,
             Cr1::PE.switch(again, true),
         ];
-        let report = settle(Answer::Done, 3, &entries, words, log);
+        let report = accessed(Answer::Done, 3, &entries, log);
         if report.logged == 0 {
             return report;
         }

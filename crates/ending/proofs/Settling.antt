@@ -6,7 +6,9 @@ use mathlib.Core.List.{List}
 use native.Mathlib.Omega.{arith}
 use lib.ListN.{length, take}
 use lib.Dec.{leb}
+use borrow.Author.Tests.{lt-leb}
 use Rattle.access.specs.declared.Report.{Report}
+use Rattle.answers.specs.declared.Answer.the-variants.{OutOfWords}
 use Rattle.access.specs.Access.{reads, entries, Settled, refusal, settle as settleAccesses, Reported}
 use Rattle.answers.specs.Answers.{Said}
 use Rattle.ending.specs.Link.{Link}
@@ -50,3 +52,7 @@ module _ (p : Plan) (l : Link) {r : Report} {before after : List ℕ} where
   -- the plan does not change the link
   pub same : (words : List ℕ) → Reported (accessesSettled p words before) before r after → p .link ≡ l → take (countShown (p .answer)) (l .«data») ≡ p .shown → Tried p words l l r before after
   same words = same-by (leb (reads (p .accesses)) (length words)) (leb (length (entries (p .accesses))) (length before))
+
+-- too few words: nothing changes
+pub short : (p : Plan) (l : Link) (words : List ℕ) {r : Report} {before : List ℕ} → length words < reads (p .accesses) → r ≡ record { answer = OutOfWords; taken = 0; logged = 0 } → Tried p words l l r before before
+short p l words few told = rw (lt-leb _ _ few, told) (record { answer = refl; taken = refl; logged = refl; link = refl; shown = refl; log = refl })

@@ -11,6 +11,9 @@ ghost use Rattle.flat.specs.Out.{Out};
 use crate::fresh;
 use flat::out::put;
 use flat::out::put_checked;
+use flat::out::put_errors;
+use flat::out::put_offered;
+use flat::out::put_started;
 use nonblocking::link::Link;
 
 #[no_mangle]
@@ -36,7 +39,7 @@ pub extern "C" fn i2c_master_write(
 )
     ensures { λ _. ⌜ Out (λ r. Matches (outcome (record { call = masterWrite addr (now (bytes .entry)); words = now (words .entry); places = size (now (log .entry)) }) (model (now (link .entry)))) r (model (now (link .exit))) (now (log .entry)) (now (log .exit))) (now (out .exit)) ⌝ }
 {
-    put(lent::master_write(link, addr, bytes, words, log), out);
+    put_started(lent::master_write(link, addr, bytes, words, log), out);
 }
 
 #[no_mangle]
@@ -51,7 +54,7 @@ pub extern "C" fn i2c_master_write_read(
 )
     ensures { λ _. ⌜ Out (λ r. Matches (outcome (record { call = masterWriteRead addr (now (bytes .entry)) «read_len»; words = now (words .entry); places = size (now (log .entry)) }) (model (now (link .entry)))) r (model (now (link .exit))) (now (log .entry)) (now (log .exit))) (now (out .exit)) ⌝ }
 {
-    put(
+    put_started(
         lent::master_write_read(link, addr, bytes, read_len, words, log),
         out,
     );
@@ -68,7 +71,7 @@ pub extern "C" fn i2c_master_read(
 )
     ensures { λ _. ⌜ Out (λ r. Matches (outcome (record { call = masterRead addr «read_len»; words = now (words .entry); places = size (now (log .entry)) }) (model (now (link .entry)))) r (model (now (link .exit))) (now (log .entry)) (now (log .exit))) (now (out .exit)) ⌝ }
 {
-    put(lent::master_read(link, addr, read_len, words, log), out);
+    put_started(lent::master_read(link, addr, read_len, words, log), out);
 }
 
 #[no_mangle]
@@ -81,7 +84,7 @@ pub extern "C" fn i2c_slave_write(
 )
     ensures { λ _. ⌜ Out (λ r. Matches (outcome (record { call = slaveWrite (now (bytes .entry)); words = now (words .entry); places = size (now (log .entry)) }) (model (now (link .entry)))) r (model (now (link .exit))) (now (log .entry)) (now (log .exit))) (now (out .exit)) ⌝ }
 {
-    put(lent::slave_write(link, bytes, words, log), out);
+    put_offered(lent::slave_write(link, bytes, words, log), out);
 }
 
 #[no_mangle]
@@ -93,7 +96,7 @@ pub extern "C" fn i2c_execute_watchdog(
 )
     ensures { λ _. ⌜ Out (λ r. Matches (outcome (record { call = executeWatchdog; words = now (words .entry); places = size (now (log .entry)) }) (model (now (link .entry)))) r (model (now (link .exit))) (now (log .entry)) (now (log .exit))) (now (out .exit)) ⌝ }
 {
-    put(lent::execute_watchdog(link, words, log), out);
+    put_started(lent::execute_watchdog(link, words, log), out);
 }
 
 // No word is taken, and nothing is logged.
@@ -101,7 +104,7 @@ pub extern "C" fn i2c_execute_watchdog(
 pub extern "C" fn i2c_get_errors_reset(link: &mut Link, out: &mut [u64; 6])
     ensures { λ _. ⌜ Out (λ r. (words log : List ℕ) → Matches (outcome (record { call = getErrorsReset; words = words; places = size log }) (model (now (link .entry)))) r (model (now (link .exit))) log log) (now (out .exit)) ⌝ }
 {
-    put(nonblocking::lent::get_errors_reset(link), out);
+    put_errors(nonblocking::lent::get_errors_reset(link), out);
 }
 
 // The configuration is ten numbers; the link is fresh afterwards, whatever it held before.

@@ -17,7 +17,7 @@ pub fn leave(ran: Ran, kept: &mut [u64; 7], out: &mut [u64; 6])
     let answer = ran.answer;
     let call = ran.parked;
     kept::lay(call, kept);
-    out::put(
+    out::put_ran(
         Report {
             answer,
             taken: ran.taken,

@@ -1,1 +1,3 @@
 pub mod Laid
+pub mod NoWord
+pub mod Stored

@@ -1,7 +1,10 @@
 // The master's starts.
 ghost use mathlib.Core.Path.{_≡_};
-ghost use Prim.Native.Nat.{ℕ};
+ghost use Prim.Native.Nat.{ℕ, _≤_};
+ghost use mathlib.Core.List.{[], _∷_};
 ghost use lib.ListN.{length as size, getD};
+ghost use Rattle.answers.specs.Answers.{said};
+ghost use Rattle.access.specs.Access.{settle, Reported};
 ghost use Rattle.ending.specs.Link.{linkAt, impossible};
 ghost use Rattle.ending.specs.Plan.{writeStart, readStart};
 ghost use Rattle.ending.specs.Outcome.{settled, Matches};
@@ -10,9 +13,8 @@ use crate::bytes::copy_in;
 use crate::good_length;
 use crate::impossible;
 use access::Report;
+use access::accessed;
 use access::refused;
-use access::settle;
-use access::word_at;
 use answers::Answer;
 use registers::cr2::Cr2;
 use registers::data::Rxdr;
@@ -40,30 +42,57 @@ pub fn write_fields(
     if impossible(*index, *length, *length_write_read, *watchdog) {
         return refused(Answer::ImpossibleLink);
     }
-    let busy = word_at(words, 0);
+    if words.len() < 1 {
+        return refused(Answer::OutOfWords);
+    }
     // Check if the bus is free.
-    if Cr2::starting(busy) {
-        let entries = [Cr2::READ, busy];
-        return settle(Answer::Pending, 1, &entries, words, log);
+    if Cr2::starting(words[0]) {
+        return looked(Answer::Pending, words, log);
     }
     if good_length(bytes) {
-        let cr2 = word_at(words, 1);
-        let start = Cr2::started(cr2, Cr2::sadd16(addr), bytes.len(), false, autoend);
-        let entries = [Cr2::READ, busy, Cr2::READ, cr2, Cr2::WRITE, start];
-        let report = settle(Answer::Done, 2, &entries, words, log);
-        if report.logged == 0 {
-            return report;
+        if words.len() < 2 {
+            return refused(Answer::OutOfWords);
         }
+        if log.len() < 6 {
+            return refused(Answer::LogFull);
+        }
+        log[0] = Cr2::READ;
+        log[1] = words[0];
+        log[2] = Cr2::READ;
+        let cr2 = words[1];
+        log[3] = cr2;
+        log[4] = Cr2::WRITE;
+        log[5] = Cr2::started(cr2, Cr2::sadd16(addr), bytes.len(), false, autoend);
         *address = addr;
         *watchdog = 10;
         *index = 0;
         *length = bytes.len();
         *length_write_read = read_len;
         copy_in(data, bytes);
-        return report;
+        return Report {
+            answer: Answer::Done,
+            taken: 2,
+            logged: 6,
+        };
     }
-    let entries = [Cr2::READ, busy];
-    settle(Answer::BadLength, 1, &entries, words, log)
+    looked(Answer::BadLength, words, log)
+}
+
+// CR2 was read, and nothing follows.
+fn looked(answer: Answer, words: &[u32], log: &mut [u32]) -> Report
+    requires { ⌜ 1 ≤ size (now words) ⌝ }
+    ensures { λ r. ⌜ Reported (settle (said answer) 1 (4 ∷ getD (now (words .entry)) 0 0 ∷ []) (size (now (words .entry))) (size (now (log .entry)))) (now (log .entry)) r (now (log .exit)) ⌝ }
+{
+    if log.len() < 2 {
+        return refused(Answer::LogFull);
+    }
+    log[0] = Cr2::READ;
+    log[1] = words[0];
+    Report {
+        answer,
+        taken: 1,
+        logged: 2,
+    }
 }
 
 // A read over a link's fields, lent one by one. The part of the buffer that it is to fill is cleared; RXDR is read to flush it.
@@ -87,14 +116,20 @@ pub fn read_fields(
     if impossible(*index, *length, length_write_read, *watchdog) {
         return refused(Answer::ImpossibleLink);
     }
-    let busy = word_at(words, 0);
+    if words.len() < 1 {
+        return refused(Answer::OutOfWords);
+    }
+    let busy = words[0];
     if Cr2::starting(busy) {
         let entries = [Cr2::READ, busy];
-        return settle(Answer::Pending, 1, &entries, words, log);
+        return accessed(Answer::Pending, 1, &entries, log);
+    }
+    if words.len() < 3 {
+        return refused(Answer::OutOfWords);
     }
     let n = read_len as usize;
-    let flushed = word_at(words, 1);
-    let cr2 = word_at(words, 2);
+    let flushed = words[1];
+    let cr2 = words[2];
     let start = Cr2::started(cr2, Cr2::sadd16(addr), n, true, true);
     let entries = [
         Cr2::READ,
@@ -106,7 +141,7 @@ pub fn read_fields(
         Cr2::WRITE,
         start,
     ];
-    let report = settle(Answer::Done, 3, &entries, words, log);
+    let report = accessed(Answer::Done, 3, &entries, log);
     if report.logged == 0 {
         return report;
     }

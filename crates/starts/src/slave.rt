@@ -9,9 +9,8 @@ use crate::bytes::copy_in;
 use crate::good_length;
 use crate::impossible;
 use access::Report;
+use access::accessed;
 use access::refused;
-use access::settle;
-use access::word_at;
 use answers::Answer;
 use registers::cr2::Cr2;
 use registers::isr::Icr;
@@ -35,7 +34,10 @@ pub fn slave_write_fields(
         return refused(Answer::ImpossibleLink);
     }
     if good_length(bytes) {
-        let cr2 = word_at(words, 0);
+        if words.len() < 1 {
+            return refused(Answer::OutOfWords);
+        }
+        let cr2 = words[0];
         let entries = [
             Cr2::READ,
             cr2,
@@ -46,7 +48,7 @@ pub fn slave_write_fields(
             Icr::WRITE,
             Icr::cleared(Isr::ADDR),
         ];
-        let report = settle(Answer::Done, 1, &entries, words, log);
+        let report = accessed(Answer::Done, 1, &entries, log);
         if report.logged == 0 {
             return report;
         }
