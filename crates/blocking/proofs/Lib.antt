@@ -1,7 +1,9 @@
+pub mod Accesses
 pub mod Buffers
 pub mod Cuts
 pub mod Examples
 pub mod Joins
+pub mod Moves
 pub mod Phased
 pub mod Sound
 pub mod Stretches

@@ -66,7 +66,7 @@ module _ {n m : ℕ} where
   unfolding after
   sound-next p w h = sound-as p w (turns p) (moves p) refl refl h
 
-length-kept : (k : Bool) (i w : ℕ) (b : List ℕ) → length (kept k i w b) ≡ length b
+pub length-kept : (k : Bool) (i w : ℕ) (b : List ℕ) → length (kept k i w b) ≡ length b
 length-kept true i w b = length-set b i (received w)
 length-kept false i w b = refl
 

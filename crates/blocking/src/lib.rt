@@ -11,6 +11,7 @@ pub mod master;
 pub mod run;
 pub mod slave;
 mod step;
+mod stretch;
 
 // What a run returns: its answer, the parked call, how many words it took, and how many places of the log it filled.
 pub struct Ran {
@@ -31,6 +32,13 @@ pub enum Turn {
 pub struct Progress {
     pub turn: Turn,
     pub parked: Parked,
+    pub taken: usize,
+    pub logged: usize,
+}
+
+// How far a call that waits is: so many bytes moved, words taken, and places of the log filled.
+pub struct Moved {
+    pub count: usize,
     pub taken: usize,
     pub logged: usize,
 }

@@ -17,7 +17,7 @@ returns c =
 returns-2 : tie.Need-returns-2
 returns-2 c =
     let a = c .before .before .before .before .before .before .before .before .before .before .before .before .before .args in
-    rw (outcome-right (a .send .now) (a .call) (a .receive .now) (a .words .now) (length (a .log .now) / 2) (sym (c .before .before .before .before .before .before .before .before .wrong .ensures) ∙ c .before .before .before .before .before .before .before .if1 .left)) (c .before .before .before .before .transfer .ensures)
+    rw (outcome-right (a .send .now) (a .call) (a .receive .now) (a .words .now) (length (a .log .now) / 2) (sym (c .before .before .before .before .before .before .before .before .wrong .ensures) ∙ c .before .before .before .before .before .before .before .if1 .left)) (c .before .before .before .before .course .ensures)
 
 pub run-spec : {M : Type 1} → statement M
 run-spec = tie.close (tie.spec (λ c κs. tt) (λ c κs. tt) returns (λ c κs. tt) (λ c. search needs) (λ c. search needs) returns-2)
