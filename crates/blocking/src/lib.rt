@@ -5,6 +5,7 @@ use parked::End;
 use parked::Parked;
 
 pub mod construct;
+mod course;
 pub mod interrupts;
 pub mod laws;
 pub mod master;

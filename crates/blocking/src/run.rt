@@ -2,11 +2,12 @@
 ghost use Prim.Native.Nat.{_/_, _≤_};
 ghost use mathlib.Core.Path.{_≡_};
 ghost use lib.ListN.{length};
-ghost use Rattle.blocking.specs.Run.{runs, outcome, called, resumed, room, Whole};
+ghost use Rattle.blocking.specs.Run.{outcome, called, resumed, room, Whole};
 ghost use Rattle.blocking.specs.Steps.{Answered, Forward, Finished};
 use crate::Progress;
 use crate::Ran;
 use crate::Turn;
+use crate::course::course;
 use crate::step::advance;
 use crate::step::exchange;
 use answers::Answer;
@@ -75,7 +76,13 @@ impl Progress {
 }
 
 // The rest of a run: until the call is over, or the words or the log end.
-fn transfer(from: Progress, send: &[u8], receive: &mut [u8], words: &[u32], log: &mut [u32]) -> Ran
+pub(crate) fn transfer(
+    from: Progress,
+    send: &[u8],
+    receive: &mut [u8],
+    words: &[u32],
+    log: &mut [u32],
+) -> Ran
     requires { ⌜ (from .taken ≤ length (now words)) × (from .logged ≤ length (now log)) ⌝ }
     ensures { λ r. ⌜ Finished (now (send .entry)) (now (words .entry)) (now (log .entry)) (now (receive .entry)) from r (now (log .exit)) (now (receive .exit)) ⌝ }
 {
@@ -100,19 +107,6 @@ fn transfer(from: Progress, send: &[u8], receive: &mut [u8], words: &[u32], log:
             Turn::Found => {}
         }
     }
-}
-
-// A call that is not wrong, over the words.
-fn course(call: Parked, send: &[u8], receive: &mut [u8], words: &[u32], log: &mut [u32]) -> Ran
-    ensures { λ r. ⌜ Whole (runs (now (send .entry)) (room (now (log .entry))) call (now (receive .entry)) (now (words .entry))) (now (log .entry)) r (now (log .exit)) (now (receive .exit)) ⌝ }
-{
-    let p = Progress {
-        turn: Turn::Again,
-        parked: call,
-        taken: 0,
-        logged: 0,
-    };
-    transfer(p, send, receive, words, log)
 }
 
 fn refused(call: Parked, answer: Answer) -> Ran
