@@ -64,7 +64,7 @@ found-more : (p : Parked) → more p ≡ true → found p ≡ Transfer
 unfolding found tcWait
 found-more p m = rw m (same (pads (p .kind)) Transfer)
 
-met : (w : ℕ) (f : Wanted) → w has wantedName f ≡ true → foundIn w f ≡ Met
+pub met : (w : ℕ) (f : Wanted) → w has wantedName f ≡ true → foundIn w f ≡ Met
 unfolding foundIn
 met w f e = rw e
 

@@ -9,6 +9,7 @@ mod course;
 pub mod interrupts;
 pub mod laws;
 pub mod master;
+mod opening;
 pub mod run;
 pub mod slave;
 mod step;
@@ -42,6 +43,18 @@ pub struct Moved {
     pub count: usize,
     pub taken: usize,
     pub logged: usize,
+}
+
+// Whether a call came to its wait, and how far it is.
+pub struct Opened {
+    pub waits: bool,
+    pub moved: Moved,
+}
+
+// A call that waits, and how far it is.
+pub struct Half {
+    pub parked: Parked,
+    pub moved: Moved,
 }
 
 // What the blocking `listen` can ask for.

@@ -1,33 +1,27 @@
--- `blocking::course::course` meets its contract: the stretches, and then the rest.
-use Prim.Native.Nat.{_/_}
-use mathlib.Core.Path.{_≡_, sym, ap, _∙_}
-use lib.ListN.{length}
-use Rattle.parked.specs.declared.Phase.{Phase}
-use Rattle.parked.proofs.Phases.{atPhase}
-use Rattle.blocking.proofs.Stretches.{carried-on, finished-on, whole-run}
+-- `blocking::course::course` meets its contract.
+use mathlib.Core.Path.{_≡_, sym, _∙_}
+use Rattle.blocking.proofs.Stretches.{finished-on, whole-run}
+use Rattle.blocking.proofs.Finishes.{finished-same}
 use borrow.Author.Needs.{needs}
 use Rattle.blocking.proofs.course.course.Statement.{statement}
 use Rattle.blocking.proofs.course.course.Tie as tie
 
-heard-requires : tie.Need-heard-requires
-heard-requires c κs =
-    let o = c .before .before .before .before .sent .ensures (c .before .before .before .before .before .before .before .before .before .before .before .before .args .receive .now) in
-    (o .words, o .room, c .before .before .before .before .before .before .before .before .before .before .before .before .pre .1)
-
-transfer-requires : tie.Need-transfer-requires
-transfer-requires c κs =
-    let h = c .before .before .before .before .before .before .before .heard .ensures (c .before .before .before .before .before .before .before .before .before .before .before .before .before .before .before .before .before .before .before .before .args .send .now) in
-    rw (c .before .before .waiting .ensures) (h .words, h .room)
+through-requires : tie.Need-through-requires
+through-requires c κs =
+    let a = c .before .before .before .before .before .before .before .before .before .before .before .before .before .before .before .args in
+    let k = c .before .before .before .before .before .before .before .before .opened .ensures (a .send .now) .yes (c .before .before .before .if1 .taken) in
+    (k .words, k .room, c .before .before .before .before .before .before .before .before .before .before .before .before .before .before .before .pre .0, c .before .before .before .before .before .before .before .before .before .before .before .before .before .before .before .pre .1 ∙ sym (k .wide))
 
 returns : tie.Need-returns
 returns c =
-    let a = c .before .before .before .before .before .before .before .before .before .before .before .before .before .before .before .before .before .before .before .before .before .before .before .before .before .args in
-    rw (ap (λ (f : Phase). atPhase (a .call) f (a .call .count)) (c .before .before .before .before .before .before .before .before .before .before .before .before .before .before .before .before .before .before .before .enum-told .given .1))
-    (whole-run
-    (finished-on (carried-on (c .before .before .before .before .before .before .before .before .before .before .before .before .before .before .before .before .before .sent .ensures (a .receive .now)) (c .before .before .before .before .before .before .before .before .before .before .before .before .heard .ensures (a .send .now))) (rw (c .before .before .before .before .before .before .before .waiting .ensures) at (c .before .before .before .before .transfer .ensures))))
+    let a = c .before .before .before .before .before .before .before .before .before .before .before .before .before .before .before .before .before .before .before .before .args in
+    whole-run (finished-on (c .before .before .before .before .before .before .before .before .before .before .before .before .before .opened .ensures (a .send .now) .yes (c .before .before .before .before .before .before .before .before .if1 .taken)) (c .before .before .before .before .through .ensures))
 
 returns-2 : tie.Need-returns-2
-returns-2 c = whole-run (c .before .before .before .before .transfer2 .ensures)
+returns-2 c =
+    let a = c .before .before .before .before .before .before .before .before .before .before .before .before .before .before .before .before .before .before .before .args in
+    let o = c .before .before .before .before .before .before .before .before .before .before .before .before .opened .ensures (a .send .now) in
+    whole-run (finished-same (o .entries (c .before .before .before .before .before .before .before .if1 .left)) (o .buffer (c .before .before .before .before .before .before .before .if1 .left)) (c .before .before .before .before .transfer .ensures))
 
 pub course-spec : {M : Type 1} → statement M
-course-spec = tie.close (tie.spec (λ c. search needs) (λ c κs. search needs) heard-requires (λ c κs. tt) transfer-requires (λ c. search needs) (λ c. search needs) returns (λ c κs. search needs) (λ c. search needs) (λ c. search needs) returns-2)
+course-spec = tie.close (tie.spec (λ c κs. search needs) through-requires (λ c. search needs) (λ c. search needs) returns (λ c κs. search needs) (λ c. search needs) (λ c. search needs) returns-2)
