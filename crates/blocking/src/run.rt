@@ -168,7 +168,7 @@ pub fn begin(
             phase: kind.opening(),
             count: 0,
         };
-        return run(begun, send, receive, words, log);
+        return course(begun, send, receive, words, log);
     }
     let ended = Parked {
         kind,

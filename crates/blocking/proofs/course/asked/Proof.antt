@@ -41,4 +41,4 @@ returns-4 c =
     }
 
 pub asked-spec : {M : Type 1} → statement M
-asked-spec = tie.close (tie.spec (λ c. search needs) returns (λ c. search needs) returns-2 returns-3 (λ c κs. tt) (λ c. search needs) (λ c. search needs) (λ c κs. tt) (λ c. search needs) (λ c. search needs) (λ c. search needs) (λ c. search needs) slice-write-log-2 (λ c. simp length-set) returns-4 returns-5 returns-6)
+asked-spec = tie.close (tie.spec (λ c. omega arith) returns (λ c. omega arith) returns-2 returns-3 (λ c κs. tt) (λ c. omega arith) (λ c. omega arith) (λ c κs. tt) (λ c. omega arith) (λ c. omega arith) (λ c. omega arith) (λ c. omega arith) slice-write-log-2 (λ c. simp length-set) returns-4 returns-5 returns-6)

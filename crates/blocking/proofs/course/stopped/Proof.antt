@@ -61,4 +61,4 @@ returns-6 c s b =
     (reached (stop s (a .words .now) (a .log .now) b (a .call) (a .m .count) (a .m .taken) (a .m .logged) found (sym (c .before .before .before .before .before .before .before .before .is-set .ensures) ∙ c .before .before .before .before .before .before .before .if4 .left) (sym (c .before .before .before .before .before .before .is-set2 .ensures) ∙ c .before .before .before .before .before .if5 .left) words room))
 
 pub stopped-spec : {M : Type 1} → statement M
-stopped-spec = tie.close (tie.spec (λ c κs. tt) returns (λ c. search needs) returns-2 (λ c. search needs) returns-3 (λ c. search needs) (λ c. search needs) (λ c. search needs) (λ c. search needs) (λ c. search needs) (λ c. search needs) (λ c. search needs) (λ c. search needs) (λ c κs. tt) returns-4 (λ c κs. tt) returns-5 (λ c κs. tt) (λ c κs. tt) (λ c. search needs) (λ c. search needs) (λ c. search needs) (λ c. search needs) (λ c. search needs) slice-write-log-2 (λ c. search needs) (λ c. search needs) slice-write-log-3 (λ c. search needs) (λ c. search needs) slice-write-log-4 (λ c. search needs) (λ c. search needs) slice-write-log-5 (λ c. search needs) (λ c. search needs) slice-write-log-6 (λ c. search needs) (λ c. search needs) slice-write-log-7 (λ c κs. tt) (λ c. search needs) (λ c. search needs) slice-write-log-8 (λ c. simp length-set) returns-6 returns-7)
+stopped-spec = tie.close (tie.spec (λ c κs. tt) returns (λ c. omega arith) returns-2 (λ c. omega arith) returns-3 (λ c. omega arith) (λ c. omega arith) (λ c. omega arith) (λ c. omega arith) (λ c. omega arith) (λ c. omega arith) (λ c. omega arith) (λ c. omega arith) (λ c κs. tt) returns-4 (λ c κs. tt) returns-5 (λ c κs. tt) (λ c κs. tt) (λ c. search needs) (λ c. omega arith) (λ c. omega arith) (λ c. omega arith) (λ c. omega arith) slice-write-log-2 (λ c. omega arith) (λ c. omega arith) slice-write-log-3 (λ c. omega arith) (λ c. omega arith) slice-write-log-4 (λ c. omega arith) (λ c. omega arith) slice-write-log-5 (λ c. omega arith) (λ c. omega arith) slice-write-log-6 (λ c. omega arith) (λ c. omega arith) slice-write-log-7 (λ c κs. tt) (λ c. omega arith) (λ c. omega arith) slice-write-log-8 (λ c. simp length-set) returns-6 returns-7)

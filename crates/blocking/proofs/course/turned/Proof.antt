@@ -45,4 +45,4 @@ returns-4 c =
     })
 
 pub turned-spec : {M : Type 1} → statement M
-turned-spec = tie.close (tie.spec (λ c. search needs) returns returns-2 (λ c. search needs) returns-3 (λ c. search needs) (λ c. search needs) (λ c κs. tt) (λ c. search needs) (λ c. search needs) (λ c. search needs) (λ c. search needs) slice-write-log-2 (λ c. search needs) (λ c. search needs) slice-write-log-3 (λ c κs. tt) (λ c κs. tt) (λ c. search needs) (λ c. search needs) slice-write-log-4 (λ c. search needs) (λ c. search needs) (λ c. simp length-set) returns-4 returns-5 returns-6)
+turned-spec = tie.close (tie.spec (λ c. search needs) returns returns-2 (λ c. omega arith) returns-3 (λ c. omega arith) (λ c. omega arith) (λ c κs. tt) (λ c. omega arith) (λ c. omega arith) (λ c. omega arith) (λ c. omega arith) slice-write-log-2 (λ c. omega arith) (λ c. omega arith) slice-write-log-3 (λ c κs. tt) (λ c κs. tt) (λ c. omega arith) (λ c. omega arith) slice-write-log-4 (λ c. omega arith) (λ c. omega arith) (λ c. simp length-set) returns-4 returns-5 returns-6)

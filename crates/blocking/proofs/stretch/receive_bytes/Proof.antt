@@ -9,10 +9,6 @@ use Rattle.blocking.proofs.Stretches.{carried-none, carried-on}
 use Rattle.blocking.proofs.Moves.{moved, receive-one}
 use Rattle.blocking.proofs.stretch.receive_bytes.Statement.{statement}
 use Rattle.blocking.proofs.stretch.receive_bytes.Tie as tie
-use Rattle.blocking.proofs.stretch.receive_bytes.Reads as reads
-use Rattle.blocking.proofs.stretch.receive_bytes.Lts as lts
-use Rattle.fields.proofs.Field.is_set.Reads as is-set-reads
-use Rattle.registers.proofs.data.Rxdr.received.Reads as received-reads
 
 abbrev Inv-loop : tie.InvT-loop
 Inv-loop receive₀ words log₀ count₀ taken₀ logged₀ receive log count taken logged = Receives words log₀ receive₀ (moved count₀ taken₀ logged₀) log receive (moved count taken logged)
@@ -20,147 +16,111 @@ Inv-loop receive₀ words log₀ count₀ taken₀ logged₀ receive log count t
 abbrev μ-loop : tie.MeasureT-loop
 μ-loop receive₀ words log₀ count₀ taken₀ logged₀ receive log count taken logged = length receive - count
 
--- src/stretch.rt:72:5
 loop-holds : tie.Need-loop-holds Inv-loop μ-loop
 loop-holds c = record { words = c .before .before .before .pre .0; room = c .before .before .before .pre .1; long = refl; wide = refl; carried = λ s p i l. carried-none (c .before .before .before .pre .0) (c .before .before .before .pre .1) }
 
--- src/stretch.rt:74:13
 same-length : tie.Need-same-length Inv-loop μ-loop
 same-length c = c .before .loop .inv .wide
 
--- src/stretch.rt:74:13
 same-length-2 : tie.Need-same-length-2 Inv-loop μ-loop
 same-length-2 c = c .before .loop .inv .long
 
--- src/stretch.rt:74:13
 returns : tie.Need-returns Inv-loop μ-loop
 returns c = c .before .loop .inv
 
--- src/stretch.rt:80:12
 sub-if2 : tie.Need-sub-if2 Inv-loop μ-loop
-sub-if2 c = search needs
+sub-if2 c = omega arith
 
--- src/stretch.rt:81:13
 same-length-3 : tie.Need-same-length-3 Inv-loop μ-loop
 same-length-3 c = c .before .before .loop .inv .wide
 
--- src/stretch.rt:81:13
 same-length-4 : tie.Need-same-length-4 Inv-loop μ-loop
 same-length-4 c = c .before .before .loop .inv .long
 
--- src/stretch.rt:81:13
 returns-2 : tie.Need-returns-2 Inv-loop μ-loop
 returns-2 c = c .before .before .loop .inv
 
--- src/stretch.rt:87:12
 sub-if3 : tie.Need-sub-if3 Inv-loop μ-loop
-sub-if3 c = search needs
+sub-if3 c = omega arith
 
--- src/stretch.rt:88:13
 same-length-5 : tie.Need-same-length-5 Inv-loop μ-loop
 same-length-5 c = c .before .before .before .loop .inv .wide
 
--- src/stretch.rt:88:13
 same-length-6 : tie.Need-same-length-6 Inv-loop μ-loop
 same-length-6 c = c .before .before .before .loop .inv .long
 
--- src/stretch.rt:88:13
 returns-3 : tie.Need-returns-3 Inv-loop μ-loop
 returns-3 c = c .before .before .before .loop .inv
 
--- src/stretch.rt:94:19
 mul-isr : tie.Need-mul-isr Inv-loop μ-loop
-mul-isr c = search needs
+mul-isr c = omega arith
 
--- src/stretch.rt:94:19
 shared-slice-read-isr : tie.Need-shared-slice-read-isr Inv-loop μ-loop
-shared-slice-read-isr c = search needs
+shared-slice-read-isr c = omega arith
 
--- src/stretch.rt:95:12
 is-set-requires : tie.Need-is-set-requires Inv-loop μ-loop
-is-set-requires c κs = search needs
+is-set-requires c κs = tt
 
--- src/stretch.rt:96:30
 add-rxdr : tie.Need-add-rxdr Inv-loop μ-loop
-add-rxdr c = search needs
+add-rxdr c = omega arith
 
--- src/stretch.rt:96:24
 mul-rxdr : tie.Need-mul-rxdr Inv-loop μ-loop
-mul-rxdr c = search needs
+mul-rxdr c = omega arith
 
--- src/stretch.rt:96:24
 shared-slice-read-rxdr : tie.Need-shared-slice-read-rxdr Inv-loop μ-loop
-shared-slice-read-rxdr c = search needs
+shared-slice-read-rxdr c = omega arith
 
--- src/stretch.rt:97:13
 mul-log : tie.Need-mul-log Inv-loop μ-loop
-mul-log c = search needs
+mul-log c = omega arith
 
--- src/stretch.rt:97:13
 slice-write-log : tie.Need-slice-write-log Inv-loop μ-loop
 slice-write-log c = search needs
 
--- src/stretch.rt:98:17
 add-log : tie.Need-add-log Inv-loop μ-loop
-add-log c = search needs
+add-log c = omega arith
 
--- src/stretch.rt:98:13
 mul-log-2 : tie.Need-mul-log-2 Inv-loop μ-loop
-mul-log-2 c = search needs
+mul-log-2 c = omega arith
 
--- src/stretch.rt:98:13
 slice-write-log-2 : tie.Need-slice-write-log-2 Inv-loop μ-loop
 slice-write-log-2 c = simp length-set (omega (arith, c .before .before .before .before .if3 .left, c .before .before .before .before .before .before .before .loop .inv .room))
 
--- src/stretch.rt:99:17
 add-log-2 : tie.Need-add-log-2 Inv-loop μ-loop
-add-log-2 c = search needs
+add-log-2 c = omega arith
 
--- src/stretch.rt:99:13
 mul-log-3 : tie.Need-mul-log-3 Inv-loop μ-loop
-mul-log-3 c = search needs
+mul-log-3 c = omega arith
 
--- src/stretch.rt:99:13
 slice-write-log-3 : tie.Need-slice-write-log-3 Inv-loop μ-loop
 slice-write-log-3 c = simp length-set (omega (arith, c .before .before .before .before .if3 .left, c .before .before .before .before .before .before .before .loop .inv .room))
 
--- src/stretch.rt:100:17
 add-log-3 : tie.Need-add-log-3 Inv-loop μ-loop
-add-log-3 c = search needs
+add-log-3 c = omega arith
 
--- src/stretch.rt:100:13
 mul-log-4 : tie.Need-mul-log-4 Inv-loop μ-loop
-mul-log-4 c = search needs
+mul-log-4 c = omega arith
 
--- src/stretch.rt:100:13
 slice-write-log-4 : tie.Need-slice-write-log-4 Inv-loop μ-loop
 slice-write-log-4 c = simp length-set (omega (arith, c .before .before .before .before .if3 .left, c .before .before .before .before .before .before .before .loop .inv .room))
 
--- src/stretch.rt:101:30
 received-requires : tie.Need-received-requires Inv-loop μ-loop
-received-requires c κs = search needs
+received-requires c κs = tt
 
--- src/stretch.rt:101:13
 slice-write-receive : tie.Need-slice-write-receive Inv-loop μ-loop
 slice-write-receive c = search needs
 
--- src/stretch.rt:102:21
 add-count : tie.Need-add-count Inv-loop μ-loop
-add-count c = search needs
+add-count c = omega arith
 
--- src/stretch.rt:103:21
 add-taken : tie.Need-add-taken Inv-loop μ-loop
-add-taken c = search needs
+add-taken c = omega arith
 
--- src/stretch.rt:104:22
 add-logged : tie.Need-add-logged Inv-loop μ-loop
-add-logged c = search needs
+add-logged c = omega arith
 
--- src/stretch.rt:72:5
 loop-less : tie.Need-loop-less Inv-loop μ-loop
 loop-less c = simp length-set (omega arith)
 
--- src/stretch.rt:72:5
 loop-again : tie.Need-loop-again Inv-loop μ-loop
 loop-again c =
     let l = c .before .before .before .before .before .before .before .before .loop in
@@ -176,15 +136,12 @@ loop-again c =
       carried = λ s p i e. rw (c .received .ensures) (carried-on (l .inv .carried s p i e) (receive-one s (a .words .now) (l .log) (l .receive) p (l .count) (l .taken) (l .logged) i (e ∙ sym (l .inv .wide)) (c .before .before .before .before .before .before .before .if1 .left) words room set));
     }
 
--- src/stretch.rt:106:13
 same-length-7 : tie.Need-same-length-7 Inv-loop μ-loop
 same-length-7 c = c .before .before .before .before .before .before .loop .inv .wide
 
--- src/stretch.rt:106:13
 same-length-8 : tie.Need-same-length-8 Inv-loop μ-loop
 same-length-8 c = c .before .before .before .before .before .before .loop .inv .long
 
--- src/stretch.rt:106:13
 returns-4 : tie.Need-returns-4 Inv-loop μ-loop
 returns-4 c = c .before .before .before .before .before .before .loop .inv
 

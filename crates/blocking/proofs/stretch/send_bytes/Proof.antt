@@ -9,10 +9,6 @@ use Rattle.blocking.proofs.Stretches.{carried-none, carried-on}
 use Rattle.blocking.proofs.Moves.{moved, send-one}
 use Rattle.blocking.proofs.stretch.send_bytes.Statement.{statement}
 use Rattle.blocking.proofs.stretch.send_bytes.Tie as tie
-use Rattle.blocking.proofs.stretch.send_bytes.Reads as reads
-use Rattle.blocking.proofs.stretch.send_bytes.Lts as lts
-use Rattle.fields.proofs.Field.is_set.Reads as is-set-reads
-use Rattle.registers.proofs.data.Txdr.sent.Reads as sent-reads
 
 abbrev Inv-loop : tie.InvT-loop
 Inv-loop send words log₀ count₀ taken₀ logged₀ log count taken logged = Sends send words log₀ (moved count₀ taken₀ logged₀) log (moved count taken logged)
@@ -20,119 +16,90 @@ Inv-loop send words log₀ count₀ taken₀ logged₀ log count taken logged = 
 abbrev μ-loop : tie.MeasureT-loop
 μ-loop send words log₀ count₀ taken₀ logged₀ log count taken logged = length send - count
 
--- src/stretch.rt:18:5
 loop-holds : tie.Need-loop-holds Inv-loop μ-loop
 loop-holds c = record { words = c .before .before .before .pre .0; room = c .before .before .before .pre .1; long = refl; carried = λ p b i l. carried-none (c .before .before .before .pre .0) (c .before .before .before .pre .1) }
 
--- src/stretch.rt:20:13
 same-length : tie.Need-same-length Inv-loop μ-loop
 same-length c = c .before .loop .inv .long
 
--- src/stretch.rt:20:13
 returns : tie.Need-returns Inv-loop μ-loop
 returns c = c .before .loop .inv
 
--- src/stretch.rt:27:13
 same-length-2 : tie.Need-same-length-2 Inv-loop μ-loop
 same-length-2 c = c .before .before .loop .inv .long
 
--- src/stretch.rt:27:13
 returns-2 : tie.Need-returns-2 Inv-loop μ-loop
 returns-2 c = c .before .before .loop .inv
 
--- src/stretch.rt:33:12
 sub-if3 : tie.Need-sub-if3 Inv-loop μ-loop
-sub-if3 c = search needs
+sub-if3 c = omega arith
 
--- src/stretch.rt:34:13
 same-length-3 : tie.Need-same-length-3 Inv-loop μ-loop
 same-length-3 c = c .before .before .before .loop .inv .long
 
--- src/stretch.rt:34:13
 returns-3 : tie.Need-returns-3 Inv-loop μ-loop
 returns-3 c = c .before .before .before .loop .inv
 
--- src/stretch.rt:40:19
 mul-isr : tie.Need-mul-isr Inv-loop μ-loop
-mul-isr c = search needs
+mul-isr c = omega arith
 
--- src/stretch.rt:40:19
 shared-slice-read-isr : tie.Need-shared-slice-read-isr Inv-loop μ-loop
-shared-slice-read-isr c = search needs
+shared-slice-read-isr c = omega arith
 
--- src/stretch.rt:41:12
 is-set-requires : tie.Need-is-set-requires Inv-loop μ-loop
-is-set-requires c κs = search needs
+is-set-requires c κs = tt
 
--- src/stretch.rt:42:13
 mul-log : tie.Need-mul-log Inv-loop μ-loop
-mul-log c = search needs
+mul-log c = omega arith
 
--- src/stretch.rt:42:13
 slice-write-log : tie.Need-slice-write-log Inv-loop μ-loop
 slice-write-log c = search needs
 
--- src/stretch.rt:43:17
 add-log : tie.Need-add-log Inv-loop μ-loop
-add-log c = search needs
+add-log c = omega arith
 
--- src/stretch.rt:43:13
 mul-log-2 : tie.Need-mul-log-2 Inv-loop μ-loop
-mul-log-2 c = search needs
+mul-log-2 c = omega arith
 
--- src/stretch.rt:43:13
 slice-write-log-2 : tie.Need-slice-write-log-2 Inv-loop μ-loop
 slice-write-log-2 c = simp length-set (omega (arith, c .before .before .before .if3 .left, c .before .before .before .before .before .before .loop .inv .room))
 
--- src/stretch.rt:44:17
 add-log-2 : tie.Need-add-log-2 Inv-loop μ-loop
-add-log-2 c = search needs
+add-log-2 c = omega arith
 
--- src/stretch.rt:44:13
 mul-log-3 : tie.Need-mul-log-3 Inv-loop μ-loop
-mul-log-3 c = search needs
+mul-log-3 c = omega arith
 
--- src/stretch.rt:44:13
 slice-write-log-3 : tie.Need-slice-write-log-3 Inv-loop μ-loop
 slice-write-log-3 c = simp length-set (omega (arith, c .before .before .before .if3 .left, c .before .before .before .before .before .before .loop .inv .room))
 
--- src/stretch.rt:45:42
 shared-slice-read-sent : tie.Need-shared-slice-read-sent Inv-loop μ-loop
-shared-slice-read-sent c = search needs
+shared-slice-read-sent c = omega arith
 
--- src/stretch.rt:45:31
 sent-requires : tie.Need-sent-requires Inv-loop μ-loop
-sent-requires c κs = search needs
+sent-requires c κs = tt
 
--- src/stretch.rt:45:17
 add-log-3 : tie.Need-add-log-3 Inv-loop μ-loop
-add-log-3 c = search needs
+add-log-3 c = omega arith
 
--- src/stretch.rt:45:13
 mul-log-4 : tie.Need-mul-log-4 Inv-loop μ-loop
-mul-log-4 c = search needs
+mul-log-4 c = omega arith
 
--- src/stretch.rt:45:13
 slice-write-log-4 : tie.Need-slice-write-log-4 Inv-loop μ-loop
 slice-write-log-4 c = simp length-set (omega (arith, c .before .before .before .before .before .if3 .left, c .before .before .before .before .before .before .before .before .loop .inv .room))
 
--- src/stretch.rt:46:21
 add-count : tie.Need-add-count Inv-loop μ-loop
-add-count c = search needs
+add-count c = omega arith
 
--- src/stretch.rt:47:21
 add-taken : tie.Need-add-taken Inv-loop μ-loop
-add-taken c = search needs
+add-taken c = omega arith
 
--- src/stretch.rt:48:22
 add-logged : tie.Need-add-logged Inv-loop μ-loop
-add-logged c = search needs
+add-logged c = omega arith
 
--- src/stretch.rt:18:5
 loop-less : tie.Need-loop-less Inv-loop μ-loop
 loop-less c = omega arith
 
--- src/stretch.rt:18:5
 loop-again : tie.Need-loop-again Inv-loop μ-loop
 loop-again c =
     let l = c .before .before .before .before .before .before .before .before .loop in
@@ -146,11 +113,9 @@ loop-again c =
       carried = λ p b i e. rw (c .sent .ensures) (carried-on (l .inv .carried p b i e) (send-one (a .send .now) (a .words .now) (l .log) b p (l .count) (l .taken) (l .logged) i e (c .before .before .before .before .before .before .before .if1 .left) (c .before .before .before .before .before .before .if2 .left) room set));
     }
 
--- src/stretch.rt:50:13
 same-length-4 : tie.Need-same-length-4 Inv-loop μ-loop
 same-length-4 c = c .before .before .before .before .before .before .loop .inv .long
 
--- src/stretch.rt:50:13
 returns-4 : tie.Need-returns-4 Inv-loop μ-loop
 returns-4 c = c .before .before .before .before .before .before .loop .inv
 
