@@ -1,17 +1,23 @@
 -- The access that a call wants at the two phases of a transfer, and the length that its count counts to.
 use Prim.Native.Nat.{ℕ, _+_}
 use lib.Dec.{ltb}
-use mathlib.Core.Path.{_≡_, _∙_}
-use mathlib.Core.Bool.{true, false}
+use mathlib.Core.Path.{_≡_, refl, _∙_}
+use mathlib.Core.Bool.{Bool, true, false, cond}
 use mathlib.Core.List.{List}
 use lib.ListN.{getD}
-use Rattle.registers.specs.Layout.{ISR, RXDR, TXDR, offset}
+use Rattle.registers.specs.declared.isr.Wanted.{Wanted}
+use Rattle.registers.specs.declared.isr.Wanted.the-variants.{Txis, Rxne, Tc}
+use Rattle.registers.specs.declared.isr.Found.the-variants.{Wanted as Met}
+use Rattle.registers.specs.Layout.{ISR, RXDR, TXDR, offset, _has_}
 use Rattle.registers.specs.Words.{sent}
+use Rattle.registers.specs.Flags.{wantedName, foundIn}
+use Rattle.parked.specs.declared.Phase.{Phase}
 use Rattle.parked.specs.declared.Phase.the-variants.{Wait, Transfer}
 use Rattle.parked.specs.declared.Next.the-variants.{Read, Write}
 use Rattle.parked.specs.declared.Parked.{Parked}
-use Rattle.parked.specs.Kinds.{incoming}
+use Rattle.parked.specs.Kinds.{incoming, pads}
 use Rattle.parked.specs.Wants.{span, more}
+use Rattle.parked.specs.After.{tcWait, wanted, found, afterFound}
 use Rattle.parked.proofs.Phases.{wants-at}
 use Rattle.blocking.specs.Run.{next}
 
@@ -37,3 +43,31 @@ module _ (p : Parked) where
   pub more-in : incoming (p .kind) ≡ true → ltb (p .count) (p .receive) ≡ more p
   unfolding more span
   more-in i = rw i
+
+  pub more-out : incoming (p .kind) ≡ false → ltb (p .count) (p .send) ≡ more p
+  unfolding more span
+  more-out i = rw i
+
+  pub wanted-in : incoming (p .kind) ≡ true → wanted p ≡ Rxne
+  unfolding wanted
+  wanted-in i = rw i
+
+  pub wanted-out : incoming (p .kind) ≡ false → more p ≡ true → wanted p ≡ Txis
+  unfolding wanted tcWait
+  wanted-out i m = rw (i, m)
+
+same : (t : Bool) (f : Phase) → cond t f f ≡ f
+same true f = refl
+same false f = refl
+
+found-more : (p : Parked) → more p ≡ true → found p ≡ Transfer
+unfolding found tcWait
+found-more p m = rw m (same (pads (p .kind)) Transfer)
+
+pub met : (w : ℕ) (f : Wanted) → w has wantedName f ≡ true → foundIn w f ≡ Met
+unfolding foundIn
+met w f e = rw e
+
+-- the wanted flag is found while a byte is left
+pub found-byte : (p : Parked) (w : ℕ) (f : Wanted) → wanted p ≡ f → w has wantedName f ≡ true → more p ≡ true → afterFound (foundIn w (wanted p)) p ≡ Transfer
+found-byte p w f e h m = rw (e, met w f h) (found-more p m)

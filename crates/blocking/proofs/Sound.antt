@@ -18,7 +18,7 @@ use Rattle.parked.specs.declared.Parked.{Parked}
 use Rattle.parked.specs.Kinds.{incoming, restarts}
 use Rattle.parked.specs.Wants.{span}
 use Rattle.parked.specs.After.{phaseAt, role, turnsAs, turns, moves, after}
-use Rattle.parked.specs.Refusals.{lengths, ended, wrong}
+use Rattle.parked.specs.Refusals.{lengths, begun, ended, wrong}
 use Rattle.blocking.specs.Run.{Outcome, kept, step, full, next, runs}
 use Rattle.parked.proofs.Counts.{moves-below}
 
@@ -66,7 +66,7 @@ module _ {n m : ℕ} where
   unfolding after
   sound-next p w h = sound-as p w (turns p) (moves p) refl refl h
 
-length-kept : (k : Bool) (i w : ℕ) (b : List ℕ) → length (kept k i w b) ≡ length b
+pub length-kept : (k : Bool) (i w : ℕ) (b : List ℕ) → length (kept k i w b) ≡ length b
 length-kept true i w b = length-set b i (received w)
 length-kept false i w b = refl
 
@@ -102,6 +102,19 @@ module _ (s : List ℕ) where
 pub right : (p : Parked) (n m : ℕ) → ended p ≡ false → Sound n m p → wrong p n m ≡ false
 unfolding wrong
 right p n m e h = rw (e, eq-eqb _ _ (h .sends), eq-eqb _ _ (h .receives), h .good) (le-ltb _ _ (h .low))
+
+-- a call that is begun
+unended : (k : Kind) (address n m : ℕ) → ended (begun k address n m) ≡ false
+unended Write address n m = refl
+unended Read address n m = refl
+unended WriteRead address n m = refl
+unended ReadBack address n m = refl
+unended SlaveWrite address n m = refl
+unended SlaveRead address n m = refl
+unended SlaveWaitAddressed address n m = refl
+
+pub right-begun : (k : Kind) (address n m : ℕ) → lengths k n m ≡ true → wrong (begun k address n m) n m ≡ false
+right-begun k address n m e = right (begun k address n m) n m (unended k address n m) (record { sends = refl; receives = refl; good = e; low = zero-le })
 
 record Passed (t₂ t₃ t₄ t₅ : Bool) : Type 0 where
   two : t₂ ≡ true

@@ -24,7 +24,7 @@ use Rattle.blocking.specs.declared.Progress.{Progress}
 use Rattle.parked.specs.After.{answer, after}
 use Rattle.parked.specs.Refusals.{lengths, begun, refused, wrong}
 use Rattle.blocking.specs.Run.{Outcome, stopped, joined, kept, next, runs, outcome, called, Whole}
-use Rattle.blocking.specs.Steps.{Answered, Told, Ends, Going, Turned, Forward}
+use Rattle.blocking.specs.Steps.{Answered, Told, Ends, Going, Turned, Forward, Carried, Finished}
 use Rattle.parked.proofs.Phases.{wants-at}
 
 pub joined-none : (q : Outcome) → q ≡ joined 0 [] q
@@ -216,16 +216,6 @@ part-fits r t ws h k =
     let e : length (take (length ws - t) (drop t ws)) ≡ length (drop t ws) = ap length (part-to-end ws t) in
     omega (arith, length-drop t ws)
 
--- a stretch of a run: from a log, a buffer and a progress to others
-pub record Carried (s ws log₀ b₀ : List ℕ) (p₀ : Progress) (log b : List ℕ) (p : Progress) : Type 0 where
-  pub words : p .taken ≤ length ws
-  pub room : p .logged ≤ length log
-  pub long : length log ≡ length log₀
-  pub wide : length b ≡ length b₀
-  pub more : p₀ .logged ≤ p .logged
-  pub going : (start : List ℕ) (q : Parked) (a : List ℕ) → length start ≡ length log₀
-      → Going s ws start q a log₀ (p₀ .parked) b₀ (p₀ .taken) (p₀ .logged) → Going s ws start q a log (p .parked) b (p .taken) (p .logged)
-
 module _ {s ws log₀ b₀ : List ℕ} {p₀ : Progress} where
   pub carried-none : p₀ .taken ≤ length ws → p₀ .logged ≤ length log₀ → Carried s ws log₀ b₀ p₀ log₀ b₀ p₀
   carried-none h k = record { words = h; room = k; long = refl; wide = refl; more = omega arith; going = λ start q a e g. g }
@@ -255,14 +245,23 @@ module _ {s ws log₀ b₀ : List ℕ} {p₀ : Progress} where
   pub shorter : {log b : List ℕ} {p : Progress} → Carried s ws log₀ b₀ p₀ log b p → p₀ .logged + 2 ≤ p .logged → length log - p .logged < length log₀ - p₀ .logged
   shorter c h = omega (arith, c .room, c .long)
 
--- the run's whole outcome, where a stretch of it from its begin ends with a turn that says that it is over
-pub ended : {s ws log₀ b₀ : List ℕ} {p₀ : Parked} {u : Turn} {log b log′ b′ : List ℕ} {p r : Progress} {q : Ran}
-    → Carried s ws log₀ b₀ (record { turn = u; parked = p₀; taken = 0; logged = 0 }) log b p → Forward s ws log b p r log′ b′ → length log′ ≡ length log → length b′ ≡ length b
-    → (a : End) → r .turn ≡ Over a → Answered r a q → Whole (runs s (length log₀ / 2) p₀ b₀ ws) log₀ q log′ b′
-ended {s} {ws} {log₀} {b₀} {p₀} {u} {log} {b} {log′} {b′} {p} {r} {q} c f e k a h o =
+-- the rest of the run, where a stretch of it ends with a turn that says that it is over
+pub ended : {s ws log₀ b₀ : List ℕ} {p₀ : Progress} {log b log′ b′ : List ℕ} {p r : Progress} {q : Ran}
+    → Carried s ws log₀ b₀ p₀ log b p → Forward s ws log b p r log′ b′ → length log′ ≡ length log → length b′ ≡ length b
+    → (a : End) → r .turn ≡ Over a → Answered r a q → Finished s ws log₀ b₀ p₀ q log′ b′
+ended {s} {ws} {log₀} {b₀} {p₀} {log} {b} {log′} {b′} {p} {r} {q} c f e k a h o =
     let d = carried-step c f e k in
-    finish s ws log₀ p₀ b₀ log′ r b′ (length log) a q (d .room) (c .long) e
-    (d .going log₀ p₀ b₀ refl (going-none s ws log₀ p₀ b₀)) (no-more f a h) o
+    record { whole = λ start p₁ b₁ n g. finish s ws start p₁ b₁ log′ r b′ (length log) a q (d .room) (c .long ∙ sym n) e (d .going start p₁ b₁ n g) (no-more f a h) o }
+
+-- a stretch, and then the rest
+pub finished-on : {s ws log₀ b₀ : List ℕ} {p₀ : Progress} {log b log′ b′ : List ℕ} {p : Progress} {r : Ran}
+    → Carried s ws log₀ b₀ p₀ log b p → Finished s ws log b p r log′ b′ → Finished s ws log₀ b₀ p₀ r log′ b′
+finished-on c f = record { whole = λ start p₁ b₁ n g. f .whole start p₁ b₁ (n ∙ sym (c .long)) (c .going start p₁ b₁ n g) }
+
+-- the whole run
+pub whole-run : {s ws log b : List ℕ} {p : Parked} {u : Turn} {r : Ran} {log′ b′ : List ℕ}
+    → Finished s ws log b (record { turn = u; parked = p; taken = 0; logged = 0 }) r log′ b′ → Whole (runs s (length log / 2) p b ws) log r log′ b′
+whole-run {s} {ws} {log} {b} {p} f = f .whole log p b refl (going-none s ws log p b)
 
 module _ (s : List ℕ) (p : Parked) (b ws : List ℕ) (n : ℕ) where
   pub outcome-wrong : wrong p (length s) (length b) ≡ true → outcome s n p b ws ≡ stopped (says 11 []) p b

@@ -5,12 +5,15 @@ use parked::End;
 use parked::Parked;
 
 pub mod construct;
+mod course;
 pub mod interrupts;
 pub mod laws;
 pub mod master;
+mod opening;
 pub mod run;
 pub mod slave;
 mod step;
+mod stretch;
 
 // What a run returns: its answer, the parked call, how many words it took, and how many places of the log it filled.
 pub struct Ran {
@@ -33,6 +36,25 @@ pub struct Progress {
     pub parked: Parked,
     pub taken: usize,
     pub logged: usize,
+}
+
+// How far a call that waits is: so many bytes moved, words taken, and places of the log filled.
+pub struct Moved {
+    pub count: usize,
+    pub taken: usize,
+    pub logged: usize,
+}
+
+// Whether a call came to its wait, and how far it is.
+pub struct Opened {
+    pub waits: bool,
+    pub moved: Moved,
+}
+
+// A call that waits, and how far it is.
+pub struct Half {
+    pub parked: Parked,
+    pub moved: Moved,
 }
 
 // What the blocking `listen` can ask for.

@@ -2,11 +2,12 @@
 ghost use Prim.Native.Nat.{_/_, _≤_};
 ghost use mathlib.Core.Path.{_≡_};
 ghost use lib.ListN.{length};
-ghost use Rattle.blocking.specs.Run.{runs, outcome, called, resumed, room, Whole};
-ghost use Rattle.blocking.specs.Steps.{Answered, Forward};
+ghost use Rattle.blocking.specs.Run.{outcome, called, resumed, room, Whole};
+ghost use Rattle.blocking.specs.Steps.{Answered, Forward, Finished};
 use crate::Progress;
 use crate::Ran;
 use crate::Turn;
+use crate::course::course;
 use crate::step::advance;
 use crate::step::exchange;
 use answers::Answer;
@@ -74,16 +75,18 @@ impl Progress {
     }
 }
 
-// A call that is not wrong, over the words: until it is over, or the words or the log end.
-fn transfer(call: Parked, send: &[u8], receive: &mut [u8], words: &[u32], log: &mut [u32]) -> Ran
-    ensures { λ r. ⌜ Whole (runs (now (send .entry)) (room (now (log .entry))) call (now (receive .entry)) (now (words .entry))) (now (log .entry)) r (now (log .exit)) (now (receive .exit)) ⌝ }
+// The rest of a run: until the call is over, or the words or the log end.
+pub(crate) fn transfer(
+    from: Progress,
+    send: &[u8],
+    receive: &mut [u8],
+    words: &[u32],
+    log: &mut [u32],
+) -> Ran
+    requires { ⌜ (from .taken ≤ length (now words)) × (from .logged ≤ length (now log)) ⌝ }
+    ensures { λ r. ⌜ Finished (now (send .entry)) (now (words .entry)) (now (log .entry)) (now (receive .entry)) from r (now (log .exit)) (now (receive .exit)) ⌝ }
 {
-    let mut p = Progress {
-        turn: Turn::Again,
-        parked: call,
-        taken: 0,
-        logged: 0,
-    };
+    let mut p = from;
     'transfer: loop {
         // The wait. STOPF, ADDR, BERR and ARLO end the whole call, and so does a missing word or room.
         loop {
@@ -124,7 +127,7 @@ pub fn run(call: Parked, send: &[u8], receive: &mut [u8], words: &[u32], log: &m
     if call.wrong(send.len(), receive.len()) {
         return refused(call, Answer::WrongCall);
     }
-    transfer(call, send, receive, words, log)
+    course(call, send, receive, words, log)
 }
 
 // Resumes a parked call with the rest of the words, from the first one not taken.
@@ -165,7 +168,7 @@ pub fn begin(
             phase: kind.opening(),
             count: 0,
         };
-        return run(begun, send, receive, words, log);
+        return course(begun, send, receive, words, log);
     }
     let ended = Parked {
         kind,

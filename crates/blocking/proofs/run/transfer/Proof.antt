@@ -4,7 +4,8 @@ use Prim.Native.Nat.{ℕ, _+_, _-_, _≤_, zero-le}
 use native.Mathlib.Omega.{arith}
 use lib.ListN.{length}
 use borrow.Author.Needs.{needs}
-use Rattle.blocking.proofs.Stretches.{Carried, carried-none, carried-step, carried-on, shorter, ended, more-again, more-found, byte-next}
+use Rattle.blocking.proofs.Stretches.{carried-none, carried-step, carried-on, shorter, ended, more-again, more-found, byte-next}
+use Rattle.blocking.specs.Steps.{Carried}
 use Rattle.blocking.proofs.run.transfer.Statement.{statement}
 use Rattle.blocking.proofs.run.transfer.Tie as tie
 
@@ -21,7 +22,7 @@ abbrev μ-transfer : tie.MeasureT-transfer
 μ-transfer send receive₀ words log₀ p₀ receive log p = length log - p .logged
 
 transfer-holds : tie.Need-transfer-holds Inv-loop μ-loop Inv-transfer μ-transfer
-transfer-holds c = carried-none zero-le zero-le
+transfer-holds c = carried-none (c .before .before .before .before .pre .0) (c .before .before .before .before .pre .1)
 
 loop-holds : tie.Need-loop-holds Inv-loop μ-loop Inv-transfer μ-transfer
 loop-holds c = carried-none (c .transfer .inv .words) (c .transfer .inv .room)

@@ -1,0 +1,69 @@
+-- `blocking::stretch::send_bytes` meets its contract: what it ensures is its invariant.
+use Prim.Native.Nat.{_+_, _-_, _≤_, _<_}
+use mathlib.Core.Path.{_≡_, refl, sym, _∙_}
+use native.Mathlib.Omega.{arith}
+use lib.ListN.{length, getD, length-set}
+use borrow.Author.Needs.{needs}
+use Rattle.blocking.specs.Steps.{Sends}
+use Rattle.blocking.proofs.Stretches.{carried-none, carried-on}
+use Rattle.blocking.proofs.Moves.{moved, send-one}
+use Rattle.blocking.proofs.stretch.send_bytes.Statement.{statement}
+use Rattle.blocking.proofs.stretch.send_bytes.Tie as tie
+
+abbrev Inv-loop : tie.InvT-loop
+Inv-loop send words log₀ count₀ taken₀ logged₀ log count taken logged = Sends send words log₀ (moved count₀ taken₀ logged₀) log (moved count taken logged)
+
+abbrev μ-loop : tie.MeasureT-loop
+μ-loop send words log₀ count₀ taken₀ logged₀ log count taken logged = length send - count
+
+loop-holds : tie.Need-loop-holds Inv-loop μ-loop
+loop-holds c = record { words = c .before .before .before .pre .0; room = c .before .before .before .pre .1; long = refl; carried = λ p b i l. carried-none (c .before .before .before .pre .0) (c .before .before .before .pre .1) }
+
+same-length : tie.Need-same-length Inv-loop μ-loop
+same-length c = c .before .loop .inv .long
+
+returns : tie.Need-returns Inv-loop μ-loop
+returns c = c .before .loop .inv
+
+same-length-2 : tie.Need-same-length-2 Inv-loop μ-loop
+same-length-2 c = c .before .before .loop .inv .long
+
+returns-2 : tie.Need-returns-2 Inv-loop μ-loop
+returns-2 c = c .before .before .loop .inv
+
+same-length-3 : tie.Need-same-length-3 Inv-loop μ-loop
+same-length-3 c = c .before .before .before .loop .inv .long
+
+returns-3 : tie.Need-returns-3 Inv-loop μ-loop
+returns-3 c = c .before .before .before .loop .inv
+
+slice-write-log-2 : tie.Need-slice-write-log-2 Inv-loop μ-loop
+slice-write-log-2 c = simp length-set (omega (arith, c .before .before .before .if3 .left, c .before .before .before .before .before .before .loop .inv .room))
+
+slice-write-log-3 : tie.Need-slice-write-log-3 Inv-loop μ-loop
+slice-write-log-3 c = simp length-set (omega (arith, c .before .before .before .if3 .left, c .before .before .before .before .before .before .loop .inv .room))
+
+slice-write-log-4 : tie.Need-slice-write-log-4 Inv-loop μ-loop
+slice-write-log-4 c = simp length-set (omega (arith, c .before .before .before .before .before .if3 .left, c .before .before .before .before .before .before .before .before .loop .inv .room))
+
+loop-again : tie.Need-loop-again Inv-loop μ-loop
+loop-again c =
+    let l = c .before .before .before .before .before .before .before .before .loop in
+    let a = c .before .before .before .before .before .before .before .before .before .before .before .before .args in
+    let room : l .logged + 4 ≤ length (l .log) = omega (arith, c .before .before .before .before .before .if3 .left, l .inv .room) in
+    let set = sym (c .before .before .before .is-set .ensures) ∙ c .before .before .if4 .taken in
+    record {
+      words = omega (arith, c .before .before .before .before .before .before .if2 .left);
+      room = simp length-set room;
+      long = simp length-set (l .inv .long);
+      carried = λ p b i e. rw (c .sent .ensures) (carried-on (l .inv .carried p b i e) (send-one (a .send .now) (a .words .now) (l .log) b p (l .count) (l .taken) (l .logged) i e (c .before .before .before .before .before .before .before .if1 .left) (c .before .before .before .before .before .before .if2 .left) room set));
+    }
+
+same-length-4 : tie.Need-same-length-4 Inv-loop μ-loop
+same-length-4 c = c .before .before .before .before .before .before .loop .inv .long
+
+returns-4 : tie.Need-returns-4 Inv-loop μ-loop
+returns-4 c = c .before .before .before .before .before .before .loop .inv
+
+pub send-bytes-spec : {M : Type 1} → statement M
+send-bytes-spec = tie.close (tie.spec Inv-loop μ-loop loop-holds same-length returns same-length-2 returns-2 (λ c. omega arith) same-length-3 returns-3 (λ c. omega arith) (λ c. omega arith) (λ c κs. tt) (λ c. omega arith) (λ c. search needs) (λ c. omega arith) (λ c. omega arith) slice-write-log-2 (λ c. omega arith) (λ c. omega arith) slice-write-log-3 (λ c. omega arith) (λ c κs. tt) (λ c. omega arith) (λ c. omega arith) slice-write-log-4 (λ c. omega arith) (λ c. omega arith) (λ c. omega arith) (λ c. omega arith) loop-again same-length-4 returns-4)
