@@ -1,10 +1,10 @@
--- `calling::copy::copy` is safe and ends.
+-- `play::copy::copy` is safe and ends.
 use Prim.Native.Nat.{_-_}
 use mathlib.Core.Path.{_≡_}
 use lib.ListN.{length}
 use borrow.Author.Needs.{needs}
-use Rattle.calling.proofs.copy.copy.Statement.{statement}
-use Rattle.calling.proofs.copy.copy.Tie as tie
+use Rattle.play.proofs.copy.copy.Statement.{statement}
+use Rattle.play.proofs.copy.copy.Tie as tie
 
 abbrev Inv-loop : tie.InvT-loop
 Inv-loop from count to₀ i₀ to i = length to ≡ length to₀

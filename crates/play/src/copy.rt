@@ -1,7 +1,7 @@
 // Bytes kept past the line that gave them.
 
 // The first bytes of one slice to the front of another. Answers how many: fewer where one of the two is shorter.
-pub fn copy(from: &[u8], count: usize, to: &mut [u8]) -> usize {
+pub(crate) fn copy(from: &[u8], count: usize, to: &mut [u8]) -> usize {
     let mut i: usize = 0;
     while i < count {
         if from.len() <= i {
