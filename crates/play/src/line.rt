@@ -19,6 +19,7 @@ use print::outcome::report;
 use script::Bytes;
 use script::Name;
 use script::Words;
+use script::parse::bytes_of;
 use script::parse::parse;
 use script::slots::*;
 use script::tokens::part;
@@ -75,30 +76,33 @@ pub(crate) fn places(slots: &Slots) -> usize {
     number(slots, WORDS) as usize % 0x1_0000 * 4 + 6
 }
 
-// How many bytes the line gives.
-fn given(slots: &Slots) -> usize {
+// The bytes that the line gives, and how many.
+fn given(text: &[u8], slots: &Slots, bytes: &mut Bytes) -> usize {
     if has(slots, DATA) {
-        return number(slots, DATA) as usize;
+        return bytes_of(text, slots, DATA, bytes);
     }
-    number(slots, SEND) as usize
+    bytes_of(text, slots, SEND, bytes)
 }
 
 // A line of the non-blocking driver.
 fn play_link(
     kept: Kept,
     name: Name,
+    text: &[u8],
     slots: &Slots,
-    first: &[u8],
     words: &[u32],
     log: &mut [u32],
     out: &mut Buffer,
 ) -> Kept {
+    let mut bytes = [0u8; 16384];
+    let count = given(text, slots, &mut bytes);
     let room = least(places(slots), log.len());
     let called = link_call(
         kept.link,
         name,
         slots,
-        part(first, 0, given(slots)),
+        &bytes,
+        count,
         words_of(words, slots),
         &mut log[0..room],
     );
@@ -159,8 +163,6 @@ pub(crate) fn play_line(
     number: u64,
     line: &[u8],
     count: usize,
-    first: &mut Bytes,
-    second: &mut Bytes,
     words: &mut Words,
     log: &mut Log,
     send: &mut Bytes,
@@ -168,24 +170,14 @@ pub(crate) fn play_line(
     out: &mut Buffer,
 ) -> Kept {
     let mut slots = [0u64; 56];
-    let name = parse(part(line, 0, count), first, second, words, &mut slots);
+    let text = part(line, 0, count);
+    let name = parse(text, words, &mut slots);
     let mut next = kept;
     next.used = line_number(out, kept.used, number);
     let group = group_of(name);
     match group {
-        Group::NonBlocking => play_link(next, name, &slots, first, words, log, out),
-        Group::Waiting => play_waiting(
-            next,
-            name,
-            &slots,
-            first,
-            second,
-            words,
-            log,
-            send,
-            recv,
-            out,
-        ),
+        Group::NonBlocking => play_link(next, name, text, &slots, words, log, out),
+        Group::Waiting => play_waiting(next, name, text, &slots, words, log, send, recv, out),
         _ => {
             next.used = play_other(group, name, &slots, words, log, out, next.used);
             next

@@ -1,13 +1,14 @@
 // The calls of the non-blocking driver.
-use crate::copy::copy;
 use crate::settings::configuration;
 use crate::settings::is_done;
 use access::refused;
 use answers::Answer;
 use nonblocking::link::Called;
 use nonblocking::link::Link;
+use script::Bytes;
 use script::Name;
 use script::slots::*;
+use script::tokens::part;
 
 // No call of the driver: no access, and the answer 0.
 fn put(link: Link) -> Called {
@@ -25,10 +26,22 @@ fn value_or(slots: &Slots, slot: usize, old: u64) -> u64 {
     }
 }
 
+// The bytes to the front of a link's data.
+fn copy(bytes: &[u8], data: &mut [u8; 255]) {
+    let mut i: usize = 0;
+    while i < 255 {
+        if bytes.len() <= i {
+            return;
+        }
+        data[i] = bytes[i];
+        i += 1;
+    }
+}
+
 // `nb set`
 fn set(link: Link, slots: &Slots, bytes: &[u8]) -> Link {
     let mut data = link.data;
-    copy(bytes, bytes.len(), &mut data);
+    copy(bytes, &mut data);
     Link {
         address: (value_or(slots, ADDRESS, link.address as u64) % 0x1_0000) as u16,
         watchdog: (value_or(slots, WATCHDOG, link.watchdog as u64) % 0x1_0000) as u16,
@@ -109,20 +122,22 @@ fn master(
     }
 }
 
-// A line of the non-blocking driver; `bytes` are those that it gives.
+// A line of the non-blocking driver; the first ones of `bytes`, so many, are those that it gives.
 pub(crate) fn link_call(
     link: Link,
     name: Name,
     slots: &Slots,
-    bytes: &[u8],
+    bytes: &Bytes,
+    count: usize,
     words: &[u32],
     log: &mut [u32],
 ) -> Called {
+    let given = part(bytes, 0, count);
     match name {
-        Name::NbSet => put(set(link, slots, bytes)),
+        Name::NbSet => put(set(link, slots, given)),
         Name::NbNew => construct(link, slots, words, log),
-        Name::NbSlaveWrite => link.slave_write(bytes, words, log),
+        Name::NbSlaveWrite => link.slave_write(given, words, log),
         Name::NbSbc => link.slave_sbc(number(slots, SBC) != 0, words, log),
-        _ => master(link, name, slots, bytes, words, log),
+        _ => master(link, name, slots, given, words, log),
     }
 }

@@ -3,7 +3,6 @@ use nonblocking::link::Link;
 use parked::Parked;
 
 mod begun;
-mod copy;
 mod line;
 mod link;
 mod run;
@@ -28,8 +27,6 @@ struct Kept {
 fn main() {
     let mut buffer = io::buffer();
     let mut line = [0u8; 32768];
-    let mut first = [0u8; 16384];
-    let mut second = [0u8; 16384];
     let mut words = [0u32; 4096];
     let mut log = [0u32; 65536];
     let mut send = [0u8; 16384];
@@ -38,8 +35,6 @@ fn main() {
     run::run(
         &mut buffer,
         &mut line,
-        &mut first,
-        &mut second,
         &mut words,
         &mut log,
         &mut send,

@@ -34,12 +34,10 @@ fn at_first() -> Kept {
     }
 }
 
-// The buffers: of the input, a line, the bytes and words that it gives, the log, the slices kept, and the output.
+// The buffers: of the input, a line, the words that it gives, the log, the slices kept, and the output.
 pub(crate) fn run(
     buffer: &mut [u8; 4096],
     line: &mut Text,
-    first: &mut Bytes,
-    second: &mut Bytes,
     words: &mut Words,
     log: &mut Log,
     send: &mut Bytes,
@@ -54,19 +52,7 @@ pub(crate) fn run(
         let next = next_line(buffer, &mut at, &mut end, line);
         match next {
             Line::Text(count) => {
-                kept = play_line(
-                    kept,
-                    number,
-                    line,
-                    count,
-                    first,
-                    second,
-                    words,
-                    log,
-                    send,
-                    recv,
-                    out,
-                );
+                kept = play_line(kept, number, line, count, words, log, send, recv, out);
             }
             Line::TooLong => kept = too_long(kept, number, out),
             Line::Skipped => {}

@@ -1,7 +1,6 @@
 // A line of a blocking call that waits.
 use crate::Kept;
 use crate::begun::waiting_run;
-use crate::copy::copy;
 use crate::line::least;
 use crate::line::places;
 use crate::line::words_of;
@@ -13,6 +12,7 @@ use print::outcome::buffer_line;
 use print::outcome::plain;
 use script::Bytes;
 use script::Name;
+use script::parse::bytes_of;
 use script::slots::*;
 use script::tokens::part;
 
@@ -64,14 +64,14 @@ fn play(
 // How long a slice is from now on. One that the line gives takes the place of the kept one; without it a begun call has none.
 fn length(
     name: Name,
+    text: &[u8],
     slots: &Slots,
     slot: usize,
-    from: &Bytes,
-    to: &mut Bytes,
+    bytes: &mut Bytes,
     kept: usize,
 ) -> usize {
     if has(slots, slot) {
-        return copy(from, number(slots, slot) as usize, to);
+        return bytes_of(text, slots, slot, bytes);
     }
     match name {
         Name::BlResume => kept,
@@ -82,17 +82,16 @@ fn length(
 pub(crate) fn play_waiting(
     kept: Kept,
     name: Name,
+    text: &[u8],
     slots: &Slots,
-    first: &Bytes,
-    second: &Bytes,
     words: &[u32],
     log: &mut [u32],
     send: &mut Bytes,
     recv: &mut Bytes,
     out: &mut Buffer,
 ) -> Kept {
-    let sent = length(name, slots, SEND, first, send, kept.send);
-    let received = length(name, slots, RECV, second, recv, kept.recv);
+    let sent = length(name, text, slots, SEND, send, kept.send);
+    let received = length(name, text, slots, RECV, recv, kept.recv);
     let parked = kept.parked;
     let ran = play(
         parked,

@@ -84,7 +84,7 @@ fn digit(token: &[u8], top: u64) -> Number {
     Number::None
 }
 
-// The number that a token is for a slot. Of BYTES it is their place on the line: they are read when the line is known.
+// The number that a token is for a slot. Of BYTES it is their place on the line: they are read where they are wanted.
 fn read(slot: usize, token: &[u8], place: usize) -> Number {
     match slot {
         LOG | WATCHDOG => decimal(token, 0xFFFF),

@@ -62,23 +62,50 @@ fn compatible(slots: &Slots) -> bool {
     true
 }
 
-// The bytes of a slot, if it was given, and how many.
-fn keep_bytes(line: &[u8], slots: &mut Slots, slot: usize, top: u64, out: &mut Bytes) -> bool {
+// The most bytes that `data=` and any other BYTES can give.
+const MOST_DATA: u64 = 255;
+
+const MOST: u64 = 16_384;
+
+// The bytes of a slot, if it was given, into the array, and how many.
+fn read_bytes(line: &[u8], slots: &Slots, slot: usize, top: u64, out: &mut Bytes) -> Number {
     if has(slots, slot) {
         let start = number(slots, slot) as usize;
-        let token = part(line, start, find(line, b' ', start));
-        let Number::Value(count) = bytes(token, top, out) else {
-            return false;
-        };
-        if slot < 28 {
-            slots[slot] = count;
-        }
+        return bytes(part(line, start, find(line, b' ', start)), top, out);
     }
+    Number::Value(0)
+}
+
+fn are_bytes(line: &[u8], slots: &Slots, slot: usize, top: u64) -> bool {
+    let mut out = [0u8; 16384];
+    let Number::Value(_) = read_bytes(line, slots, slot, top, &mut out) else {
+        return false;
+    };
     true
 }
 
-// All but the bytes.
-fn read(line: &[u8], words: &mut Words, slots: &mut Slots) -> Name {
+// The bytes that a parsed line gives for a slot, into the array. Answers how many.
+pub fn bytes_of(line: &[u8], slots: &Slots, slot: usize, out: &mut Bytes) -> usize {
+    let Number::Value(count) = read_bytes(line, slots, slot, MOST, out) else {
+        return 0;
+    };
+    count as usize
+}
+
+// Whether the values that a line gives go together and its BYTES are bytes.
+fn is_sound(line: &[u8], slots: &Slots) -> bool {
+    if are_bytes(line, slots, DATA, MOST_DATA) {
+        if are_bytes(line, slots, SEND, MOST) {
+            if are_bytes(line, slots, RECV, MOST) {
+                return compatible(slots);
+            }
+        }
+    }
+    false
+}
+
+// The call of a line. Its numbers go into the slots, which hold none, its words into the lent array.
+pub fn parse(line: &[u8], words: &mut Words, slots: &mut Slots) -> Name {
     let start = skip(line, 0);
     let end = find(line, b' ', start);
     let second = skip(line, end);
@@ -93,33 +120,9 @@ fn read(line: &[u8], words: &mut Words, slots: &mut Slots) -> Name {
         return Name::BadLine;
     }
     slots[WORDS] = count as u64;
-    if compatible(slots) {
+    if is_sound(line, slots) {
         name
     } else {
         Name::BadLine
     }
-}
-
-// The most bytes that `data=` and any other BYTES can give.
-const MOST_DATA: u64 = 255;
-
-const MOST: u64 = 16_384;
-
-// The call of a line. Its numbers go into the slots, which hold none, its bytes and words into the lent arrays.
-pub fn parse(
-    line: &[u8],
-    first: &mut Bytes,
-    second: &mut Bytes,
-    words: &mut Words,
-    slots: &mut Slots,
-) -> Name {
-    let name = read(line, words, slots);
-    if keep_bytes(line, slots, DATA, MOST_DATA, first) {
-        if keep_bytes(line, slots, SEND, MOST, first) {
-            if keep_bytes(line, slots, RECV, MOST, second) {
-                return name;
-            }
-        }
-    }
-    Name::BadLine
 }

@@ -16,7 +16,7 @@ pub const COUNT: usize = 4;
 pub const ERRORS: usize = 5;
 
 pub const SECOND_HALF: usize = 6;
-// Of BYTES, here and in the next two: how many. The bytes of `DATA` and `SEND` stand in the lent `first`, those of `RECV` in the lent `second`.
+// Of BYTES, here and in the next two: where they stand on the line.
 pub const DATA: usize = 7;
 
 pub const SEND: usize = 8;
