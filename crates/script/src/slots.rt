@@ -91,6 +91,7 @@ pub fn has(slots: &Slots, slot: usize) -> bool {
 // Puts a number into a slot that has none yet: nothing comes twice, and nothing after `log=`.
 pub(crate) fn put(slots: &mut Slots, slot: usize, value: u64) -> bool {
     if slot < 28 {
+        // No `LOG` yet.
         if slots[28] == 0 {
             if slots[slot + 28] == 0 {
                 slots[slot] = value;
