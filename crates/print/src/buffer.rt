@@ -1,4 +1,4 @@
-// The lent buffer: `out` holds `used` bytes that are still to be written.
+// The lent buffer: `out` holds `used` bytes that are still to be written. What adds to it answers how many it holds then.
 use libc::STDOUT_FILENO;
 
 pub type Buffer = [u8; 65536];
@@ -11,32 +11,27 @@ fn write_first(bytes: &[u8], count: usize) {
 }
 
 // Writes what the buffer holds.
-pub fn flush(out: &mut Buffer, used: &mut usize) {
-    write_first(out, *used);
-    *used = 0;
+pub fn flush(out: &Buffer, used: usize) {
+    write_first(out, used);
 }
 
 // One byte; a full buffer is written first.
-pub fn byte(out: &mut Buffer, used: &mut usize, byte: u8) {
-    let at = *used;
-    if at < 65536 {
-        out[at] = byte;
-        *used = at + 1;
-        return;
+pub fn byte(out: &mut Buffer, used: usize, byte: u8) -> usize {
+    if used < 65536 {
+        out[used] = byte;
+        return used + 1;
     }
     io::write_all(STDOUT_FILENO, out);
     out[0] = byte;
-    *used = 1;
+    1
 }
 
-pub fn text(out: &mut Buffer, used: &mut usize, bytes: &[u8]) {
+pub fn text(out: &mut Buffer, used: usize, bytes: &[u8]) -> usize {
+    let mut used = used;
     let mut i: usize = 0;
     while i < bytes.len() {
-        byte(out, used, bytes[i]);
+        used = byte(out, used, bytes[i]);
         i += 1;
     }
-}
-
-pub fn line_end(out: &mut Buffer, used: &mut usize) {
-    byte(out, used, b'\n');
+    used
 }

@@ -1,5 +1,5 @@
 // What the programs print, by way of a buffer that is lent: accesses and answers as lines, numbers, bytes as hex pairs.
 pub mod answer;
 pub mod buffer;
-pub mod number;
 pub mod outcome;
+mod words;

@@ -1,7 +1,10 @@
 // Lines of standard input.
+use crate::Text;
 
+// A line of so many characters; one of none, or a comment; one of too many; none.
 pub enum Line {
     Text(usize),
+    Skipped,
     TooLong,
     End,
 }
@@ -32,35 +35,33 @@ pub fn next_byte(buffer: &mut [u8; 4096], at: &mut usize, end: &mut usize) -> Ne
     Next::End
 }
 
-// More characters than any slice has.
-const OVER: usize = 18_446_744_073_709_551_615;
+// More characters than a line may have.
+const OVER: usize = 32_769;
 
 // Adds a byte to the line. Answers how many it has now.
-fn add(line: &mut [u8], count: usize, byte: u8) -> usize {
-    if count < line.len() {
+fn add(line: &mut Text, count: usize, byte: u8) -> usize {
+    if count < 32_768 {
         line[count] = byte;
         return count + 1;
     }
     OVER
 }
 
-// Of a comment only its first character counts.
-fn whole(line: &[u8], count: usize) -> Line {
-    if 0 < count {
-        if 0 < line.len() {
-            if line[0] == b'#' {
-                return Line::Text(1);
-            }
-        }
+fn whole(line: &Text, count: usize) -> Line {
+    if count == 0 {
+        return Line::Skipped;
     }
-    if line.len() < count {
+    if line[0] == b'#' {
+        return Line::Skipped;
+    }
+    if count == OVER {
         return Line::TooLong;
     }
     Line::Text(count)
 }
 
 // A line that ends with the input; nothing at all is none.
-fn last(line: &[u8], count: usize) -> Line {
+fn last(line: &Text, count: usize) -> Line {
     if count == 0 {
         return Line::End;
     }
@@ -72,7 +73,7 @@ pub fn next_line(
     buffer: &mut [u8; 4096],
     at: &mut usize,
     end: &mut usize,
-    line: &mut [u8],
+    line: &mut Text,
 ) -> Line {
     let mut count: usize = 0;
     // No line is as long as this.

@@ -1,9 +1,8 @@
 // The names of the calls.
 use crate::Name;
-use crate::tokens::next;
 use crate::tokens::which;
 
-fn nb(index: u64) -> Name {
+fn nb(index: usize) -> Name {
     match index {
         0 => Name::NbReset,
         1 => Name::NbSet,
@@ -27,7 +26,7 @@ fn nb(index: u64) -> Name {
     }
 }
 
-fn bl(index: u64) -> Name {
+fn bl(index: usize) -> Name {
     match index {
         0 => Name::BlNew,
         1 => Name::BlWrite,
@@ -46,7 +45,7 @@ fn bl(index: u64) -> Name {
     }
 }
 
-fn cfg(index: u64) -> Name {
+fn cfg(index: usize) -> Name {
     match index {
         0 => Name::CfgTiming,
         1 => Name::CfgFilter,
@@ -55,10 +54,8 @@ fn cfg(index: u64) -> Name {
     }
 }
 
-// The name that the first two tokens are, and `at` past them.
-pub fn read_name(line: &[u8], at: &mut usize) -> Name {
-    let driver = next(line, at);
-    let token = next(line, at);
+// The name that a line's first two tokens are.
+pub(crate) fn name(driver: &[u8], token: &[u8]) -> Name {
     match which(driver, b"nb bl cfg ") {
         0 => nb(which(
             token,

@@ -24,7 +24,7 @@ fn digit(b: u8) -> u64
     }
 }
 
-pub fn at_most(value: u64, top: u64) -> Number {
+pub(crate) fn at_most(value: u64, top: u64) -> Number {
     if value <= top {
         return Number::Value(value);
     }
@@ -32,7 +32,7 @@ pub fn at_most(value: u64, top: u64) -> Number {
 }
 
 // 1 to 20 digits.
-pub fn decimal(token: &[u8], top: u64) -> Number {
+pub(crate) fn decimal(token: &[u8], top: u64) -> Number {
     if token.len() == 0 {
         return Number::None;
     }
@@ -60,7 +60,7 @@ pub fn decimal(token: &[u8], top: u64) -> Number {
 }
 
 // 1 to 8 digits.
-pub fn hex(token: &[u8], top: u64) -> Number {
+pub(crate) fn hex(token: &[u8], top: u64) -> Number {
     if token.len() == 0 {
         return Number::None;
     }
@@ -81,7 +81,7 @@ pub fn hex(token: &[u8], top: u64) -> Number {
 }
 
 // `A8:M` as 8 times the address and the mask.
-pub fn masked(token: &[u8]) -> Number {
+pub(crate) fn masked(token: &[u8]) -> Number {
     let colon = find(token, b':', 0);
     if token.len() <= colon {
         return Number::None;

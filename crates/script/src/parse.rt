@@ -1,75 +1,128 @@
 // From a line to its call.
+use crate::Bytes;
 use crate::Name;
 use crate::Number;
-use crate::Parsed;
-use crate::build::build;
+use crate::Words;
+use crate::bytes::bytes;
+use crate::items::OVER;
 use crate::items::keep_items;
-use crate::names::read_name;
+use crate::names::name;
 use crate::numbers::hex;
-use crate::options::compatible;
-use crate::slots::WORDS;
-use crate::slots::put;
-use crate::tokens::next;
-
-// The most characters and words of a line.
-const MOST_CHARACTERS: usize = 32_768;
-
-const MOST_WORDS: usize = 4_096;
+use crate::slots::*;
+use crate::tokens::find;
+use crate::tokens::part;
+use crate::tokens::skip;
 
 // The word that a token is, into its place.
-fn keep_word(token: &[u8], words: &mut [u32], place: usize) -> bool {
+fn keep_word(token: &[u8], words: &mut Words, place: usize) -> bool {
     let Number::Value(word) = hex(token, 0xFFFF_FFFF) else {
         return false;
     };
-    if place < words.len() {
-        if place < MOST_WORDS {
-            words[place] = (word % 0x1_0000_0000) as u32;
-            return true;
-        }
+    if place < 4096 {
+        words[place] = (word % 0x1_0000_0000) as u32;
+        return true;
     }
     false
 }
 
-// The words from a place to the line's end, and how many.
-fn keep_words(line: &[u8], at: &mut usize, words: &mut [u32], slots: &mut [u64; 48]) -> bool {
+// The words from a place to the line's end. Answers how many.
+fn keep_words(line: &[u8], from: usize, words: &mut Words) -> usize {
+    let mut at = from;
     let mut count: usize = 0;
-    while count <= MOST_WORDS {
-        let token = next(line, at);
-        if token.len() == 0 {
-            return put(slots, WORDS, count as u64);
+    while count <= 4096 {
+        let start = skip(line, at);
+        at = find(line, b' ', start);
+        if at == start {
+            return count;
         }
-        if !keep_word(token, words, count) {
-            return false;
+        if !keep_word(part(line, start, at), words, count) {
+            return OVER;
         }
         count += 1;
     }
-    false
+    OVER
 }
 
-fn read(
-    line: &[u8],
-    first: &mut [u8],
-    second: &mut [u8],
-    words: &mut [u32],
-    slots: &mut [u64; 48],
-) -> Name {
-    let mut at: usize = 0;
-    if line.len() <= MOST_CHARACTERS {
-        let name = read_name(line, &mut at);
-        if keep_items(name, line, &mut at, first, second, slots) {
-            if keep_words(line, &mut at, words, slots) {
-                if compatible(slots) {
-                    return name;
-                }
+// Whether no two options stand that exclude each other.
+fn compatible(slots: &Slots) -> bool {
+    if has(slots, FILTER) {
+        if has(slots, DNF) {
+            return false;
+        }
+    }
+    if has(slots, OWN_7) {
+        if has(slots, OWN_7_RAW) {
+            return false;
+        }
+        return !has(slots, OWN_10);
+    }
+    if has(slots, OWN_7_RAW) {
+        return !has(slots, OWN_10);
+    }
+    true
+}
+
+// The most bytes that `data=` and any other BYTES can give.
+const MOST_DATA: u64 = 255;
+
+const MOST: u64 = 16_384;
+
+// The bytes of a slot, if it was given, into the array, and how many.
+fn read_bytes(line: &[u8], slots: &Slots, slot: usize, top: u64, out: &mut Bytes) -> Number {
+    if has(slots, slot) {
+        let start = number(slots, slot) as usize;
+        return bytes(part(line, start, find(line, b' ', start)), top, out);
+    }
+    Number::Value(0)
+}
+
+fn are_bytes(line: &[u8], slots: &Slots, slot: usize, top: u64) -> bool {
+    let mut out = [0u8; 16384];
+    let Number::Value(_) = read_bytes(line, slots, slot, top, &mut out) else {
+        return false;
+    };
+    true
+}
+
+// The bytes that a parsed line gives for a slot, into the array. Answers how many.
+pub fn bytes_of(line: &[u8], slots: &Slots, slot: usize, out: &mut Bytes) -> usize {
+    let Number::Value(count) = read_bytes(line, slots, slot, MOST, out) else {
+        return 0;
+    };
+    count as usize
+}
+
+// Whether the values that a line gives go together and its BYTES are bytes.
+fn is_sound(line: &[u8], slots: &Slots) -> bool {
+    if are_bytes(line, slots, DATA, MOST_DATA) {
+        if are_bytes(line, slots, SEND, MOST) {
+            if are_bytes(line, slots, RECV, MOST) {
+                return compatible(slots);
             }
         }
     }
-    Name::BadLine
+    false
 }
 
-// The bytes and words go into the lent slices; a line with more than these hold is bad.
-pub fn parse(line: &[u8], first: &mut [u8], second: &mut [u8], words: &mut [u32]) -> Parsed {
-    let mut slots = [0u64; 48];
-    let name = read(line, first, second, words, &mut slots);
-    build(name, &slots)
+// The call of a line. Its numbers go into the slots, which hold none, its words into the lent array.
+pub fn parse(line: &[u8], words: &mut Words, slots: &mut Slots) -> Name {
+    let start = skip(line, 0);
+    let end = find(line, b' ', start);
+    let second = skip(line, end);
+    let past = find(line, b' ', second);
+    let name = name(part(line, start, end), part(line, second, past));
+    let bar = keep_items(name, line, past, slots);
+    if bar == OVER {
+        return Name::BadLine;
+    }
+    let count = keep_words(line, bar, words);
+    if count == OVER {
+        return Name::BadLine;
+    }
+    slots[WORDS] = count as u64;
+    if is_sound(line, slots) {
+        name
+    } else {
+        Name::BadLine
+    }
 }

@@ -1,83 +1,103 @@
-// The numbers found on a line. Each has a slot; 24 places on stands 1 where it was given.
-use crate::Size;
-use registers::config::Setting;
+// The numbers found on a line. Each value has a slot; 28 places on stands 1 where it was given.
 
-pub const NUMBER: usize = 0;
+pub type Slots = [u64; 56];
 
-pub const LENGTH: usize = 1;
+// The options, in the order of their keys in `items::option`.
+pub const LOG: usize = 0;
 
-pub const FIRST: usize = 2;
+pub const ADDRESS: usize = 1;
 
-pub const SECOND: usize = 3;
+pub const WATCHDOG: usize = 2;
 
-pub const LOG: usize = 4;
+pub const INDEX: usize = 3;
 
-pub const WORDS: usize = 5;
+pub const COUNT: usize = 4;
 
-pub const ADDRESS: usize = 6;
+pub const ERRORS: usize = 5;
 
-pub const WATCHDOG: usize = 7;
+pub const SECOND_HALF: usize = 6;
+// Of BYTES, here and in the next two: where they stand on the line.
+pub const DATA: usize = 7;
 
-pub const INDEX: usize = 8;
+pub const SEND: usize = 8;
 
-pub const COUNT: usize = 9;
+pub const RECV: usize = 9;
 
-pub const ERRORS: usize = 10;
+pub const SPEED: usize = 10;
 
-pub const SECOND_HALF: usize = 11;
+pub const TIMING: usize = 11;
 
-pub const SPEED: usize = 12;
+pub const ANALOG: usize = 12;
 
-pub const TIMING: usize = 13;
+pub const FILTER: usize = 13;
 
-pub const ANALOG: usize = 14;
+pub const DNF: usize = 14;
 
-pub const FILTER: usize = 15;
+pub const OWN_7: usize = 15;
 
-pub const DNF: usize = 16;
-// `own7` and `own7raw`.
-pub const OWN_7: usize = 17;
+pub const OWN_10: usize = 16;
 
-pub const OWN_10: usize = 18;
+pub const OWN_7_RAW: usize = 17;
 // 8 times the address, and the mask.
-pub const OWN_2: usize = 19;
+pub const OWN_2: usize = 18;
+
+// The arguments, beside `SEND` and `RECV`: addresses of 16 and of 8 bits, the clock, the filter, the word of a period, the read length.
+pub const ADDRESS_16: usize = 19;
+
+pub const ADDRESS_8: usize = 20;
+
+pub const CLOCK: usize = 21;
+
+pub const CYCLES: usize = 22;
+
+pub const PERIOD: usize = 23;
+
+pub const LENGTH: usize = 24;
+
+pub const SBC: usize = 25;
+// 0 for addr and 1 for rxne.
+pub const EVENT: usize = 26;
+
+// How many words stand in the lent `words`.
+pub const WORDS: usize = 27;
+
+pub const NONE: usize = 28;
 
 // 0 where nothing was given.
-pub fn number(slots: &[u64; 48], slot: usize) -> u64 {
-    if slot < 24 {
-        return slots[slot];
-    }
-    0
+pub fn number(slots: &Slots, slot: usize) -> u64 {
+    if slot < 28 { slots[slot] } else { 0 }
 }
 
-pub fn has(slots: &[u64; 48], slot: usize) -> bool {
-    if slot < 24 {
-        return slots[slot + 24] == 1;
+// A number by its lowest 32, 16 and 8 bits.
+pub fn word(slots: &Slots, slot: usize) -> u32 {
+    (number(slots, slot) % 0x1_0000_0000) as u32
+}
+
+pub fn short(slots: &Slots, slot: usize) -> u16 {
+    (number(slots, slot) % 0x1_0000) as u16
+}
+
+pub fn byte(slots: &Slots, slot: usize) -> u8 {
+    (number(slots, slot) % 0x100) as u8
+}
+
+pub fn has(slots: &Slots, slot: usize) -> bool {
+    if slot < 28 {
+        return slots[slot + 28] == 1;
     }
     false
 }
 
-pub fn setting(slots: &[u64; 48], slot: usize) -> Setting {
-    if has(slots, slot) {
-        return Setting::Set((number(slots, slot) % 0x1_0000_0000) as u32);
-    }
-    Setting::Unset
-}
-
-pub fn size(slots: &[u64; 48], slot: usize) -> Size {
-    if has(slots, slot) {
-        return Size::Set(number(slots, slot) as usize);
-    }
-    Size::Unset
-}
-
-// Puts a number into a slot that has none yet: nothing comes twice.
-pub fn put(slots: &mut [u64; 48], slot: usize, value: u64) -> bool {
-    if slot < 24 {
-        if slots[slot + 24] == 0 {
-            slots[slot] = value;
-            slots[slot + 24] = 1;
-            return true;
+// Puts a number into a slot that has none yet: nothing comes twice, and nothing after `log=`.
+pub(crate) fn put(slots: &mut Slots, slot: usize, value: u64) -> bool {
+    if slot < 28 {
+        // No `LOG` yet.
+        if slots[28] == 0 {
+            if slots[slot + 28] == 0 {
+                slots[slot] = value;
+                slots[slot + 28] = 1;
+                return true;
+            }
         }
     }
     false

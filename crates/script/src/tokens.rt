@@ -11,7 +11,7 @@ pub fn part(line: &[u8], start: usize, end: usize) -> &[u8] {
 }
 
 // The first place from `from` on that holds the byte, or the line's length.
-pub fn find(line: &[u8], byte: u8, from: usize) -> usize {
+pub(crate) fn find(line: &[u8], byte: u8, from: usize) -> usize {
     let mut i = from;
     while i < line.len() {
         if line[i] == byte {
@@ -23,7 +23,7 @@ pub fn find(line: &[u8], byte: u8, from: usize) -> usize {
 }
 
 // The first place from `from` on that holds no space, or the line's length.
-fn skip(line: &[u8], from: usize) -> usize {
+pub(crate) fn skip(line: &[u8], from: usize) -> usize {
     let mut i = from;
     while i < line.len() {
         if line[i] != b' ' {
@@ -34,16 +34,8 @@ fn skip(line: &[u8], from: usize) -> usize {
     line.len()
 }
 
-// The next token, and `at` past it; an empty one at the line's end.
-pub fn next<'a>(line: &'a [u8], at: &mut usize) -> &'a [u8] {
-    let start = skip(line, *at);
-    let end = find(line, b' ', start);
-    *at = end;
-    part(line, start, end)
-}
-
 // Whether a call ends at this token: at the line's end or at `|`.
-pub fn ends(token: &[u8]) -> bool {
+pub(crate) fn ends(token: &[u8]) -> bool {
     if token.len() == 0 {
         return true;
     }
@@ -63,15 +55,15 @@ fn agree(token: &[u8], count: usize, byte: u8) -> usize {
     18_446_744_073_709_551_615
 }
 
-const NO_NAME: u64 = 1000;
+const NO_NAME: usize = 1000;
 
-fn one_more(n: u64) -> u64 {
+fn one_more(n: usize) -> usize {
     if n < NO_NAME { n + 1 } else { n }
 }
 
 // Which of the names the token is, counted from 0. A space ends each name.
-pub fn which(token: &[u8], names: &[u8]) -> u64 {
-    let mut index: u64 = 0;
+pub(crate) fn which(token: &[u8], names: &[u8]) -> usize {
+    let mut index: usize = 0;
     let mut count: usize = 0;
     let mut i: usize = 0;
     while i < names.len() {

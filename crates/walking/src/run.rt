@@ -1,4 +1,5 @@
 // A walk: `master_write_read` to 0x50 with 01 40 and read length 2, and then checks while words are left.
+ghost use Prim.Native.Nat.{_≤_};
 use crate::input::Line;
 use crate::input::next_line;
 use answers::Answer;
@@ -68,41 +69,15 @@ fn without(ahead: Ahead, taken: usize) -> Ahead {
     }
 }
 
-// A check over the words read ahead, printed.
-fn step(link: Link, words: [u32; 3], count: usize, out: &mut Buffer, used: &mut usize) -> Called {
-    let mut log = [0u32; 10];
-    if count < 3 {
-        let called = link.check_isr_flags(&words[..count], &mut log);
-        return printed(called, &log, out, used);
-    }
-    let called = link.check_isr_flags(&words, &mut log);
-    printed(called, &log, out, used)
+// What a call comes to, once it is printed: the link after it, the words that it took, whether it lacked one, and the output that is still to be written.
+struct Walked {
+    pub link: Link,
+    pub taken: usize,
+    pub lacking: bool,
+    pub used: usize,
 }
 
-fn start(link: Link, words: [u32; 3], count: usize, out: &mut Buffer, used: &mut usize) -> Called {
-    let mut log = [0u32; 10];
-    let bytes = [0x01u8, 0x40];
-    if count < 3 {
-        let called = link.master_write_read(0x50, &bytes, 2, &words[..count], &mut log);
-        return printed(called, &log, out, used);
-    }
-    let called = link.master_write_read(0x50, &bytes, 2, &words, &mut log);
-    printed(called, &log, out, used)
-}
-
-fn printed(called: Called, log: &[u32; 10], out: &mut Buffer, used: &mut usize) -> Called {
-    let report = called.report;
-    let answer = report.answer;
-    let link = called.link;
-    let data = link.data;
-    accesses(out, used, log, report.logged);
-    answer_line(out, used, answer, &data);
-    called
-}
-
-fn out_of_words(called: Called) -> bool {
-    let report = called.report;
-    let answer = report.answer;
+fn lacks_words(answer: Answer) -> bool {
     if let Answer::OutOfWords = answer {
         true
     } else {
@@ -110,13 +85,45 @@ fn out_of_words(called: Called) -> bool {
     }
 }
 
-fn walk(
-    buffer: &mut [u8; 4096],
-    at: &mut usize,
-    end: &mut usize,
-    out: &mut Buffer,
-    used: &mut usize,
-) {
+fn printed(called: Called, log: &[u32; 10], out: &mut Buffer, used: usize) -> Walked {
+    let report = called.report;
+    let answer = report.answer;
+    let link = called.link;
+    let data = link.data;
+    let used = accesses(out, used, log, report.logged);
+    Walked {
+        link,
+        taken: report.taken,
+        lacking: lacks_words(answer),
+        used: answer_line(out, used, answer, &data),
+    }
+}
+
+// A check over the words read ahead.
+fn step(link: Link, words: [u32; 3], count: usize, out: &mut Buffer, used: usize) -> Walked {
+    let mut log = [0u32; 10];
+    let count = at_most_three(count);
+    let called = link.check_isr_flags(&words[0..count], &mut log);
+    printed(called, &log, out, used)
+}
+
+fn start(words: [u32; 3], count: usize, out: &mut Buffer) -> Walked {
+    let mut log = [0u32; 10];
+    let bytes = [0x01u8, 0x40];
+    let count = at_most_three(count);
+    let link = Link::new();
+    let called = link.master_write_read(0x50, &bytes, 2, &words[0..count], &mut log);
+    printed(called, &log, out, 0)
+}
+
+fn at_most_three(n: usize) -> usize
+    ensures { λ r. ⌜ r ≤ 3 ⌝ }
+{
+    if n < 3 { n } else { 3 }
+}
+
+// Answers how much output is still to be written.
+fn walk(buffer: &mut [u8; 4096], at: &mut usize, end: &mut usize, out: &mut Buffer) -> usize {
     let none = Ahead {
         words: [0u32; 3],
         count: 0,
@@ -124,29 +131,27 @@ fn walk(
     };
     let mut ahead = fill(none, buffer, at, end);
     let first = ahead.words;
-    let mut called = start(Link::new(), first, ahead.count, out, used);
+    let mut walked = start(first, ahead.count, out);
     // No input is as long as this.
     let mut turns: u64 = 18_446_744_073_709_551_615;
     while 0 < turns {
-        if out_of_words(called) {
-            return;
+        if walked.lacking {
+            return walked.used;
         }
-        let taken = called.report.taken;
-        ahead = fill(without(ahead, taken), buffer, at, end);
+        ahead = fill(without(ahead, walked.taken), buffer, at, end);
         if ahead.count == 0 {
-            return;
+            return walked.used;
         }
-        let link = called.link;
         let words = ahead.words;
-        called = step(link, words, ahead.count, out, used);
+        walked = step(walked.link, words, ahead.count, out, walked.used);
         turns -= 1;
     }
+    walked.used
 }
 
 // One walk, from the input's next byte on. What is read past the walk's last line stays in the buffer.
 pub fn run(buffer: &mut [u8; 4096], at: &mut usize, end: &mut usize) {
     let mut out = io::large_buffer();
-    let mut used: usize = 0;
-    walk(buffer, at, end, &mut out, &mut used);
-    flush(&mut out, &mut used);
+    let used = walk(buffer, at, end, &mut out);
+    flush(&out, used);
 }

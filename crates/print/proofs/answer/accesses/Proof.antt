@@ -1,15 +1,14 @@
 -- `print::answer::accesses` is safe and ends.
-use Prim.Native.Nat.{_-_, _<_}
-use lib.ListN.{length}
+use Prim.Native.Nat.{_-_, _≤_}
 use borrow.Author.Needs.{needs}
 use Rattle.print.proofs.answer.accesses.Statement.{statement}
 use Rattle.print.proofs.answer.accesses.Tie as tie
 
 abbrev Inv-loop : tie.InvT-loop
-Inv-loop out₀ used₀ log logged i₀ out used i = 0 < i
+Inv-loop out₀ used log logged used₀ i₀ out used' i = 0 ≤ i
 
 abbrev μ-loop : tie.MeasureT-loop
-μ-loop out₀ used₀ log logged i₀ out used i = length log - i
+μ-loop out₀ used log logged used₀ i₀ out used' i = logged - i
 
 pub accesses-spec : {M : Type 1} → statement M
 accesses-spec =
@@ -24,9 +23,9 @@ accesses-spec =
     (λ c. search needs)
     (λ c. search needs)
     (λ c. search needs)
+    (λ c. search needs)
+    (λ c. search needs)
     (λ c κs. search needs)
-    (λ c. search needs)
-    (λ c. search needs)
     (λ c. search needs)
     (λ c. search needs)
     (λ c. search needs)

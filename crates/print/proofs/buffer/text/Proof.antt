@@ -6,10 +6,10 @@ use Rattle.print.proofs.buffer.text.Statement.{statement}
 use Rattle.print.proofs.buffer.text.Tie as tie
 
 abbrev Inv-loop : tie.InvT-loop
-Inv-loop out₀ used₀ bytes i₀ out used i = i ≤ length bytes
+Inv-loop out₀ used bytes used₀ i₀ out used' i = i ≤ length bytes
 
 abbrev μ-loop : tie.MeasureT-loop
-μ-loop out₀ used₀ bytes i₀ out used i = length bytes - i
+μ-loop out₀ used bytes used₀ i₀ out used' i = length bytes - i
 
 pub text-spec : {M : Type 1} → statement M
 text-spec =

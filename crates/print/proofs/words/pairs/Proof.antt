@@ -1,15 +1,15 @@
--- `print::number::pairs` is safe and ends.
+-- `print::words::pairs` is safe and ends.
 use Prim.Native.Nat.{_-_, _≤_}
 use lib.ListN.{length}
 use borrow.Author.Needs.{needs}
-use Rattle.print.proofs.number.pairs.Statement.{statement}
-use Rattle.print.proofs.number.pairs.Tie as tie
+use Rattle.print.proofs.words.pairs.Statement.{statement}
+use Rattle.print.proofs.words.pairs.Tie as tie
 
 abbrev Inv-loop : tie.InvT-loop
-Inv-loop out₀ used₀ bytes i₀ out used i = i ≤ length bytes
+Inv-loop out₀ used bytes used₀ i₀ out used' i = i ≤ length bytes
 
 abbrev μ-loop : tie.MeasureT-loop
-μ-loop out₀ used₀ bytes i₀ out used i = length bytes - i
+μ-loop out₀ used bytes used₀ i₀ out used' i = length bytes - i
 
 pub pairs-spec : {M : Type 1} → statement M
 pairs-spec =
@@ -17,6 +17,8 @@ pairs-spec =
     (tie.spec
     Inv-loop
     μ-loop
+    (λ c κs. search needs)
+    (λ c. search needs)
     (λ c κs. search needs)
     (λ c. search needs)
     (λ c. search needs)

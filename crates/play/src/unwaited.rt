@@ -1,8 +1,8 @@
 // The blocking calls that never wait.
-use crate::Call;
+use crate::settings::configuration;
+use crate::settings::is_done;
 use access::Report;
 use access::refused;
-use answers::Answer;
 use blocking::Event;
 use blocking::construct::i2c1;
 use blocking::interrupts::clear_irq;
@@ -10,10 +10,10 @@ use blocking::interrupts::listen;
 use blocking::interrupts::unlisten;
 use blocking::slave::slave_addressed;
 use blocking::slave::slave_sbc;
-use registers::config::Config;
 use script::Name;
+use script::slots::*;
 
-fn event(number: u32) -> Event {
+fn event(number: u64) -> Event {
     if number == 0 {
         Event::AddressMatch
     } else {
@@ -30,20 +30,20 @@ fn call_event(name: Name, event: Event, words: &[u32], log: &mut [u32]) -> Repor
 }
 
 // `bl new`
-fn construct(accepted: bool, config: Config, clock: u32, words: &[u32], log: &mut [u32]) -> Report {
-    if accepted {
-        return i2c1(config, clock, words, log);
+fn construct(slots: &Slots, words: &[u32], log: &mut [u32]) -> Report {
+    let filtered = configuration(slots);
+    let answer = filtered.answer;
+    if is_done(answer) {
+        return i2c1(filtered.config, word(slots, CLOCK), words, log);
     }
-    refused(Answer::BadFilter)
+    refused(answer)
 }
 
-pub fn unwaited_call(call: Call, config: Config, words: &[u32], log: &mut [u32]) -> Report {
-    let name = call.name;
-    let number = call.number;
+pub(crate) fn unwaited_call(name: Name, slots: &Slots, words: &[u32], log: &mut [u32]) -> Report {
     match name {
-        Name::BlNew => construct(call.accepted, config, number, words, log),
+        Name::BlNew => construct(slots, words, log),
         Name::BlSlaveAddressed => slave_addressed(words, log),
-        Name::BlSbc => slave_sbc(number != 0, words, log),
-        _ => call_event(name, event(number), words, log),
+        Name::BlSbc => slave_sbc(number(slots, SBC) != 0, words, log),
+        _ => call_event(name, event(number(slots, EVENT)), words, log),
     }
 }

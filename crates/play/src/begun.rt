@@ -30,7 +30,7 @@ fn begun(
 }
 
 // A call begun, or the parked one resumed, with the slices that it has from now on.
-pub fn waiting_run(
+pub(crate) fn waiting_run(
     parked: Parked,
     name: Name,
     address: u8,

@@ -1,0 +1,112 @@
+// The configuration of a line, and the calls of the configuration.
+use answers::Answer;
+use registers::config::Config;
+use registers::config::Filtered;
+use registers::config::Setting;
+use registers::config::SlaveAddressMask;
+use registers::config::Timing;
+use script::Name;
+use script::slots::*;
+
+fn mask(number: u64) -> SlaveAddressMask {
+    match number {
+        0 => SlaveAddressMask::MaskNone,
+        1 => SlaveAddressMask::MaskOneBit,
+        2 => SlaveAddressMask::MaskTwoBits,
+        3 => SlaveAddressMask::MaskThreeBits,
+        4 => SlaveAddressMask::MaskFourBits,
+        5 => SlaveAddressMask::MaskFiveBits,
+        6 => SlaveAddressMask::MaskSixBits,
+        _ => SlaveAddressMask::MaskAllBits,
+    }
+}
+
+fn setting(slots: &Slots, slot: usize) -> Setting {
+    if has(slots, slot) {
+        return Setting::Set(word(slots, slot));
+    }
+    Setting::Unset
+}
+
+fn own_address(slots: &Slots) -> u16 {
+    if has(slots, OWN_10) {
+        return short(slots, OWN_10);
+    }
+    if has(slots, OWN_7_RAW) {
+        return short(slots, OWN_7_RAW);
+    }
+    short(slots, OWN_7)
+}
+
+// The configuration but for its filter.
+fn config(slots: &Slots) -> Config {
+    let second = number(slots, OWN_2);
+    Config {
+        speed: setting(slots, SPEED),
+        timing: setting(slots, TIMING),
+        analog_filter: !has(slots, ANALOG),
+        digital_filter: byte(slots, DNF),
+        slave_address_1: own_address(slots),
+        address_11bits: has(slots, OWN_10),
+        slave_address_2: (second / 8 % 0x100) as u8,
+        slave_address_mask: mask(second % 8),
+    }
+}
+
+// The configuration with its filter, which goes through the setter.
+pub(crate) fn configuration(slots: &Slots) -> Filtered {
+    let config = config(slots);
+    if has(slots, FILTER) {
+        return config.enable_digital_filter(byte(slots, FILTER));
+    }
+    Filtered {
+        answer: Answer::Done,
+        config,
+    }
+}
+
+pub(crate) fn is_done(answer: Answer) -> bool {
+    if let Answer::Done = answer {
+        true
+    } else {
+        false
+    }
+}
+
+// What a call of the configuration tells.
+pub(crate) enum Told {
+    Word(u32),
+    Period(u32),
+    BadFilter,
+    NoRate,
+}
+
+fn timing(filtered: Filtered, clock: u32) -> Told {
+    let answer = filtered.answer;
+    if !is_done(answer) {
+        return Told::BadFilter;
+    }
+    let timing = filtered.config.timing_bits(clock);
+    match timing {
+        Timing::Bits(bits) => Told::Word(bits),
+        Timing::NoRate => Told::NoRate,
+    }
+}
+
+// The setting that the setter leaves.
+fn filter(filtered: Filtered) -> Told {
+    let answer = filtered.answer;
+    if !is_done(answer) {
+        return Told::BadFilter;
+    }
+    let config = filtered.config;
+    Told::Word(config.digital_filter as u32)
+}
+
+pub(crate) fn config_call(name: Name, slots: &Slots) -> Told {
+    match name {
+        Name::CfgTiming => timing(configuration(slots), word(slots, CLOCK)),
+        Name::CfgFilter => filter(config(slots).enable_digital_filter(byte(slots, CYCLES))),
+        _ => Told::Period(Config::scl_period(word(slots, PERIOD))),
+    }
+}
