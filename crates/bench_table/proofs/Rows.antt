@@ -5,17 +5,17 @@ use mathlib.Core.Path.{_≡_, refl}
 use mathlib.Core.List.{List, [], _∷_, _++_, map}
 use lib.ListN.{length, getD}
 use Rattle.fields.specs.Field.{digit}
-use Rattle.registers.specs.declared.config.Config.{Config}
-use Rattle.registers.specs.declared.config.Setting.{Setting}
-use Rattle.registers.specs.declared.config.Setting.the-variants.{Unset, Set}
-use Rattle.registers.specs.Layout.{Register, offset}
-use Rattle.registers.specs.Config.{maskNumber, plain, timingBits, period}
+use Rattle.config.specs.declared.Config.{Config}
+use Rattle.config.specs.declared.Setting.{Setting}
+use Rattle.config.specs.declared.Setting.the-variants.{Unset, Set}
+use Rattle.layout.specs.Layout.{Register, offset}
+use Rattle.config.specs.Config.{maskNumber, plain, timingBits, period}
 use Rattle.access.specs.Access.{entries}
 use Rattle.ending.specs.Link.{fresh}
 use Rattle.ending.specs.Outcome.{outcome}
 use Rattle.ending.specs.EqualEnding.{ran}
 use Rattle.nonblocking.specs.Construct.{construction as nonBlockingConstruction}
-use Rattle.blocking.specs.Construct.{construction as blockingConstruction}
+use Rattle.never_wait.specs.Construct.{construction as blockingConstruction}
 use Rattle.ending.specs.Call.{Call, Step, masterWrite, masterWriteRead, masterRead, slaveWrite, checkIsrFlags, executeWatchdog, getErrorsReset, masterGetData, slaveGetData, getAddress, listen, unlisten, slaveSbc, setAddress}
 use Rattle.bench_table.specs.Table.{Driver, nonBlocking, blocking, Case, timing, sclPeriod, constructed, answer, log, beside, gives, Row, table}
 

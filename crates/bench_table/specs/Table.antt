@@ -4,19 +4,19 @@ use mathlib.Core.Bool.{Bool, true, false, _&&_, cond}
 use mathlib.Core.List.{List, [], _∷_}
 use lib.Dec.{eqb}
 use lib.ListN.{replicate}
-use Rattle.registers.specs.declared.config.Config.{Config}
-use Rattle.registers.specs.declared.config.Setting.the-variants.{Unset, Set}
-use Rattle.registers.specs.declared.config.SlaveAddressMask.the-variants.{MaskOneBit}
-use Rattle.registers.specs.Layout.{Register, offset, OAR1, OAR2}
+use Rattle.config.specs.declared.Config.{Config}
+use Rattle.config.specs.declared.Setting.the-variants.{Unset, Set}
+use Rattle.config.specs.declared.SlaveAddressMask.the-variants.{MaskOneBit}
+use Rattle.layout.specs.Layout.{Register, offset, OAR1, OAR2}
 use Rattle.access.specs.Access.{Settled, entries}
 use Rattle.answers.specs.Answers.{Said}
-use Rattle.registers.specs.Config.{plain, withOwnAddress, withSecondAddress, timingBits, period}
+use Rattle.config.specs.Config.{plain, withOwnAddress, withSecondAddress, timingBits, period}
 use Rattle.ending.specs.Link.{fresh}
 use Rattle.ending.specs.Call.{Step, masterWrite, checkIsrFlags, getErrorsReset}
 use Rattle.ending.specs.Outcome.{outcome}
 use Rattle.ending.specs.EqualEnding.{ran, step}
 use Rattle.nonblocking.specs.Construct.{construction as nonBlockingConstruction}
-use Rattle.blocking.specs.Construct.{construction as blockingConstruction}
+use Rattle.never_wait.specs.Construct.{construction as blockingConstruction}
 
 pub data Driver : Type 0 where
   nonBlocking blocking : Driver

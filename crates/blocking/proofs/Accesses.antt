@@ -13,10 +13,10 @@ use Rattle.parked.specs.declared.Parked.{Parked}
 use Rattle.parked.specs.After.{after}
 use Rattle.blocking.specs.declared.Turn.the-variants.{Again}
 use Rattle.blocking.specs.declared.Progress.{Progress}
-use Rattle.blocking.specs.Run.{Outcome, joined, kept, next, runs}
+use Rattle.runs.specs.Run.{Outcome, joined, kept, next, runs}
 use Rattle.blocking.specs.Steps.{Going, Carried}
-use Rattle.blocking.proofs.Stretches.{joined-joined, run-read, run-write}
-use Rattle.blocking.proofs.Sound.{length-kept}
+use Rattle.runs.proofs.OneAccess.{joined-joined, run-read, run-write}
+use Rattle.runs.proofs.Sound.{length-kept}
 
 -- so many words taken and places logged, at a call
 abbrev pub on : Parked → ℕ → ℕ → Progress

@@ -6,27 +6,28 @@ use mathlib.Core.List.{List}
 use native.Mathlib.Omega.{arith}
 use lib.ListN.{length, getD, set}
 use borrow.Author.Tests.{le-ltb}
-use Rattle.registers.specs.declared.isr.Wanted.{Wanted}
-use Rattle.registers.specs.declared.isr.Wanted.the-variants.{Txis, Rxne, Tc}
-use Rattle.registers.specs.declared.isr.Found.the-variants.{Stopf as MetStopf}
-use Rattle.registers.specs.Layout.{CR2, ISR, ICR, RXDR, TXIS, TXE, TC, STOPF, offset, _has_}
-use Rattle.registers.specs.Words.{starting, started, flushed, cleared, sadd8}
-use Rattle.registers.specs.Flags.{foundIn}
-use Rattle.parked.specs.declared.Kind.the-variants.{Write, Read, WriteRead, ReadBack}
-use Rattle.parked.specs.declared.End.the-variants.{Stopf}
-use Rattle.parked.specs.declared.Opening.the-variants.{Start, Drain, Modify, Setup, Flush}
-use Rattle.parked.specs.declared.Role.the-variants.{Other}
-use Rattle.parked.specs.declared.Phase.{Phase}
-use Rattle.parked.specs.declared.Phase.the-variants.{Open, Wait, Restart, FlushTxis, FlushTxe, ClearStopf, Ended}
+use Rattle.flags.specs.declared.Wanted.{Wanted}
+use Rattle.flags.specs.declared.Wanted.the-variants.{Txis, Rxne, Tc}
+use Rattle.flags.specs.declared.Found.the-variants.{Stopf as MetStopf}
+use Rattle.layout.specs.Layout.{CR2, ISR, ICR, RXDR, TXIS, TXE, TC, STOPF, offset, _has_}
+use Rattle.layout.specs.Words.{starting, started, flushed, cleared, sadd8}
+use Rattle.flags.specs.Flags.{foundIn}
+use Rattle.phases.specs.declared.Kind.the-variants.{Write, Read, WriteRead, ReadBack}
+use Rattle.phases.specs.declared.End.the-variants.{Stopf}
+use Rattle.phases.specs.declared.Opening.the-variants.{Start, Drain, Modify, Setup, Flush}
+use Rattle.phases.specs.declared.Role.the-variants.{Other}
+use Rattle.phases.specs.declared.Phase.{Phase}
+use Rattle.phases.specs.declared.Phase.the-variants.{Open, Wait, Restart, FlushTxis, FlushTxe, ClearStopf, Ended}
 use Rattle.parked.specs.declared.Next.the-variants.{Read as ReadA, Write as WriteA}
 use Rattle.parked.specs.declared.Parked.{Parked}
-use Rattle.parked.specs.Kinds.{incoming, restarts}
+use Rattle.phases.specs.Kinds.{incoming, restarts}
 use Rattle.parked.specs.Wants.{more, wantsAt}
-use Rattle.parked.specs.After.{tcWait, wanted, found, afterFound, phaseAt, role, turns, moves, after}
+use Rattle.parked.specs.After.{tcWait, wanted, found, afterFound, phaseAt, turns, moves, after}
+use Rattle.phases.specs.Phases.{role}
 use Rattle.parked.proofs.Phases.{atPhase, wants-at}
 use Rattle.blocking.specs.Steps.{Carried, waiting}
 use Rattle.blocking.proofs.Stretches.{carried-on}
-use Rattle.blocking.proofs.Phased.{more-out, met}
+use Rattle.runs.proofs.Phased.{more-out, met}
 use Rattle.blocking.proofs.Accesses.{on, reads, writes}
 use Rattle.blocking.proofs.Moves.{moved}
 

@@ -8,19 +8,20 @@ use lib.ListN.{length, drop, length-drop}
 use Rattle.answers.specs.declared.Answer.{Answer}
 use Rattle.answers.specs.declared.Answer.the-variants.{OutOfWords as SaysOutOfWords}
 use Rattle.answers.specs.Answers.{said}
-use Rattle.parked.specs.declared.End.{End}
-use Rattle.parked.specs.declared.End.the-variants.{OutOfWords}
-use Rattle.parked.specs.declared.Phase.the-variants.{Ended}
+use Rattle.phases.specs.declared.End.{End}
+use Rattle.phases.specs.declared.End.the-variants.{OutOfWords}
+use Rattle.phases.specs.declared.Phase.the-variants.{Ended}
 use Rattle.parked.specs.declared.Next.the-variants.{Read}
 use Rattle.parked.specs.declared.Parked.{Parked}
 use Rattle.parked.specs.After.{answer}
 use Rattle.parked.proofs.Phases.{atPhase, wants-at}
 use Rattle.blocking.specs.declared.Moved.{Moved}
 use Rattle.blocking.specs.declared.Progress.{Progress}
-use Rattle.blocking.specs.declared.Ran.{Ran}
-use Rattle.blocking.specs.Run.{stopped, next, runs}
+use Rattle.runs.specs.declared.Ran.{Ran}
+use Rattle.runs.specs.Run.{stopped, next, runs}
 use Rattle.blocking.specs.Steps.{Carried, Finished, Opens, Reaches, fresh, waiting}
-use Rattle.blocking.proofs.Stretches.{finish, run-over, run-out}
+use Rattle.blocking.proofs.Stretches.{finish}
+use Rattle.runs.proofs.OneAccess.{run-over, run-out}
 use Rattle.blocking.proofs.Accesses.{on}
 
 pub never : false ≡ true → ⊥

@@ -1,12 +1,5 @@
 pub mod Accesses
 pub mod Blocks
-pub mod Buffers
-pub mod Cuts
-pub mod Examples
 pub mod Finishes
-pub mod Joins
 pub mod Moves
-pub mod Phased
-pub mod Promises
-pub mod Sound
 pub mod Stretches

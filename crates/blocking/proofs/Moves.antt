@@ -6,20 +6,21 @@ use mathlib.Core.List.{List}
 use native.Mathlib.Omega.{arith}
 use borrow.Author.Tests.{lt-ltb}
 use lib.ListN.{length, getD, set}
-use Rattle.registers.specs.declared.isr.Wanted.the-variants.{Txis, Rxne}
-use Rattle.registers.specs.Layout.{ISR, RXDR, TXDR, TXIS, RXNE, offset, _has_}
-use Rattle.registers.specs.Words.{received, sent}
-use Rattle.parked.specs.declared.Phase.the-variants.{Wait, Transfer}
+use Rattle.flags.specs.declared.Wanted.the-variants.{Txis, Rxne}
+use Rattle.layout.specs.Layout.{ISR, RXDR, TXDR, TXIS, RXNE, offset, _has_}
+use Rattle.layout.specs.Words.{received, sent}
+use Rattle.phases.specs.declared.Phase.the-variants.{Wait, Transfer}
 use Rattle.parked.specs.declared.Parked.{Parked}
-use Rattle.parked.specs.Kinds.{incoming}
+use Rattle.phases.specs.Kinds.{incoming}
 use Rattle.parked.specs.Wants.{more}
 use Rattle.parked.specs.After.{after}
 use Rattle.parked.proofs.Phases.{atPhase, after-wait, after-byte}
 use Rattle.blocking.specs.declared.Moved.{Moved}
 use Rattle.blocking.specs.declared.Progress.{Progress}
 use Rattle.blocking.specs.Steps.{Carried, waiting}
-use Rattle.blocking.proofs.Stretches.{carried-on, getD-default}
-use Rattle.blocking.proofs.Phased.{next-wait, next-in, next-out, more-in, more-out, wanted-in, wanted-out, found-byte}
+use Rattle.blocking.proofs.Stretches.{carried-on}
+use Rattle.runs.proofs.OneAccess.{getD-default}
+use Rattle.runs.proofs.Phased.{next-wait, next-in, next-out, more-in, more-out, wanted-in, wanted-out, found-byte}
 use Rattle.blocking.proofs.Accesses.{on, reads, writes}
 
 abbrev pub moved : ℕ → ℕ → ℕ → Moved

@@ -1,37 +1,31 @@
 -- Laws of a run: one step of it, and how stretches of a run join.
 use mathlib.Core.Path.{_≡_, refl, sym, ap, ap₂, _∙_, subst}
-use mathlib.Core.Bool.{Bool, true, false}
-use mathlib.Core.List.{List, [], _∷_, _++_, append-assoc, append-nil}
+use mathlib.Core.Bool.{true, false}
+use mathlib.Core.List.{List, [], _∷_, _++_, append-nil}
 use Prim.Native.Nat.{ℕ, zero, suc, _+_, _-_, _/_, _≤_, _<_, zero-le}
-use native.Mathlib.Nat.{not-suc-le-zero, zero-add, add-assoc, suc-add, le-of-suc-le-suc, sub-zero, add-zero}
+use native.Mathlib.Nat.{not-suc-le-zero, le-of-suc-le-suc, sub-zero, add-zero}
 use native.Mathlib.Omega.{arith}
-use lib.ListN.{length, getD, take, drop, set, length-drop, take-append-drop}
+use lib.ListN.{length, take, drop, set, length-drop}
 use lib.Seq.{length-take-le, take-append-add, drop-drop, drop-at, drop-length}
 use borrow.Rule.Slice.PartAt.{part-to-end}
 use borrow.Rule.Slice.PartMut.{putMid, post-is}
 use Rattle.answers.specs.Answers.{says}
 use Rattle.access.specs.Access.{over}
-use Rattle.parked.specs.declared.End.{End}
-use Rattle.parked.specs.declared.Phase.the-variants.{Transfer, Ended}
-use Rattle.parked.specs.declared.Next.{Next}
-use Rattle.parked.specs.declared.Next.the-variants.{Read, Write, Over as OverA}
+use Rattle.phases.specs.declared.End.{End}
+use Rattle.phases.specs.declared.Phase.the-variants.{Transfer, Ended}
 use Rattle.parked.specs.declared.Parked.{Parked}
-use Rattle.parked.specs.declared.Kind.{Kind}
-use Rattle.blocking.specs.declared.Ran.{Ran}
+use Rattle.phases.specs.declared.Kind.{Kind}
+use Rattle.runs.specs.declared.Ran.{Ran}
 use Rattle.blocking.specs.declared.Turn.{Turn}
 use Rattle.blocking.specs.declared.Turn.the-variants.{Again, Found, Over}
 use Rattle.blocking.specs.declared.Progress.{Progress}
-use Rattle.parked.specs.After.{answer, after}
-use Rattle.parked.specs.Refusals.{lengths, begun, refused, wrong}
-use Rattle.blocking.specs.Run.{Outcome, stopped, joined, kept, next, runs, outcome, called, Whole}
+use Rattle.parked.specs.After.{answer}
+use Rattle.parked.specs.Refusals.{begun, refused}
+use Rattle.phases.specs.Lengths.{lengths}
+use Rattle.runs.specs.Run.{Outcome, stopped, joined, kept, runs, outcome, called, Whole}
 use Rattle.blocking.specs.Steps.{Answered, Told, Ends, Going, Turned, Forward, Carried, Finished}
 use Rattle.parked.proofs.Phases.{wants-at}
-
-pub joined-none : (q : Outcome) → q ≡ joined 0 [] q
-joined-none q = rw zero-add
-
-pub joined-joined : (t u : ℕ) (l m : List ℕ) (q : Outcome) → joined t l (joined u m q) ≡ joined (t + u) (l ++ m) q
-joined-joined t u l m q = rw (add-assoc, append-assoc)
+use Rattle.runs.proofs.OneAccess.{joined-none, joined-joined, run-over}
 
 two-set : (log : List ℕ) (o w : ℕ) → 2 ≤ length log → set (set log 0 o) 1 w ≡ o ∷ w ∷ drop 2 log
 two-set [] o w h = absurd (not-suc-le-zero h)
@@ -44,38 +38,6 @@ room-more n h = omega arith
 
 pub room-none : (n : ℕ) → n < 2 → n / 2 ≡ 0
 room-none n h = omega arith
-
-module _ (s : List ℕ) (p : Parked) (b : List ℕ) where
-  pub run-over : (n : ℕ) (ws : List ℕ) (e : End) → next s p ≡ OverA e → runs s n p b ws ≡ stopped (answer e p) p b
-  unfolding runs
-  run-over zero ws e h = rw h
-  run-over (suc n) ws e h = rw h
-
-  pub run-out : (n : ℕ) (ws : List ℕ) (o : ℕ) (k : Bool) → next s p ≡ Read o k → length ws ≡ 0 → runs s n p b ws ≡ stopped (says 9 []) p b
-  unfolding runs
-  run-out zero [] o k e h = rw e
-  run-out (suc n) [] o k e h = rw e
-  run-out n (w ∷ ws) o k e h = absurd (omega arith)
-
-  pub full-read : (ws : List ℕ) (o : ℕ) (k : Bool) → next s p ≡ Read o k → (length ws ≡ 0 → ⊥) → runs s 0 p b ws ≡ stopped (says 10 []) p b
-  unfolding runs
-  full-read [] o k e h = absurd (h refl)
-  full-read (w ∷ ws) o k e h = rw e
-
-  pub full-write : (ws : List ℕ) (o w : ℕ) → next s p ≡ Write o w → runs s 0 p b ws ≡ stopped (says 10 []) p b
-  unfolding runs
-  full-write ws o w e = rw e
-
-  pub run-read : (n : ℕ) (ws : List ℕ) (o : ℕ) (k : Bool) → next s p ≡ Read o k → (length ws ≡ 0 → ⊥)
-      → runs s (suc n) p b ws ≡ joined 1 (o ∷ getD ws 0 0 ∷ []) (runs s n (after p (getD ws 0 0)) (kept k (p .count) (getD ws 0 0) b) (drop 1 ws))
-  unfolding runs
-  run-read n [] o k e h = absurd (h refl)
-  run-read n (w ∷ ws) o k e h = rw e
-
-  pub run-write : (n : ℕ) (ws : List ℕ) (o w : ℕ) → next s p ≡ Write o w
-      → runs s (suc n) p b ws ≡ joined 0 (o ∷ w ∷ []) (runs s n (after p 0) b ws)
-  unfolding runs
-  run-write n ws o w e = rw e
 
 pub turned-over : (s : List ℕ) (p : Parked) (b ws log : List ℕ) (a : End) (r : Progress)
     → r ≡ record { turn = Over a; parked = p; taken = 0; logged = 0 } → runs s (length log / 2) p b ws ≡ stopped (answer a p) p b → Turned s p b ws log r b log
@@ -263,15 +225,6 @@ pub whole-run : {s ws log b : List ℕ} {p : Parked} {u : Turn} {r : Ran} {log�
     → Finished s ws log b (record { turn = u; parked = p; taken = 0; logged = 0 }) r log′ b′ → Whole (runs s (length log / 2) p b ws) log r log′ b′
 whole-run {s} {ws} {log} {b} {p} f = f .whole log p b refl (going-none s ws log p b)
 
-module _ (s : List ℕ) (p : Parked) (b ws : List ℕ) (n : ℕ) where
-  pub outcome-wrong : wrong p (length s) (length b) ≡ true → outcome s n p b ws ≡ stopped (says 11 []) p b
-  unfolding outcome
-  outcome-wrong e = rw e
-
-  pub outcome-right : wrong p (length s) (length b) ≡ false → outcome s n p b ws ≡ runs s n p b ws
-  unfolding outcome
-  outcome-right e = rw e
-
 module _ (k : Kind) (address : ℕ) (s b ws : List ℕ) (n : ℕ) where
   pub call-good : lengths k (length s) (length b) ≡ true → called k address s n b ws ≡ outcome s n (begun k address (length s) (length b)) b ws
   unfolding called
@@ -288,9 +241,3 @@ nothing (x ∷ l) e = absurd (omega arith)
 -- a call that has no buffer is lent an empty one
 pub unlent : {q : Outcome} {log : List ℕ} {r : Ran} {log′ b : List ℕ} → Whole q log r log′ b → length b ≡ 0 → Whole q log r log′ []
 unlent {q} {log} {r} {log′} {b} w e = subst (λ (l : List ℕ). Whole q log r log′ l) (sym (nothing b e)) w
-
--- inside a list the default does not matter
-pub getD-default : (l : List ℕ) (i d e : ℕ) → i < length l → getD l i d ≡ getD l i e
-getD-default [] i d e h = absurd (omega arith)
-getD-default (x ∷ l) zero d e h = refl
-getD-default (x ∷ l) (suc i) d e h = getD-default l i d e (le-of-suc-le-suc h)

@@ -5,19 +5,19 @@ use mathlib.Core.Bool.{Bool, true, false}
 use mathlib.Core.List.{List, [], _∷_, _++_}
 use lib.ListN.{length, take, drop}
 use Rattle.answers.specs.Answers.{said}
-use Rattle.parked.specs.declared.End.{End}
-use Rattle.parked.specs.declared.End.the-variants.{Stopf}
-use Rattle.parked.specs.declared.Phase.the-variants.{Wait, Transfer, Ended}
+use Rattle.phases.specs.declared.End.{End}
+use Rattle.phases.specs.declared.End.the-variants.{Stopf}
+use Rattle.phases.specs.declared.Phase.the-variants.{Wait, Transfer, Ended}
 use Rattle.parked.specs.declared.Parked.{Parked}
 use Rattle.blocking.specs.declared.Turn.{Turn}
 use Rattle.blocking.specs.declared.Turn.the-variants.{Again, Found, Over}
 use Rattle.blocking.specs.declared.Progress.{Progress}
 use Rattle.blocking.specs.declared.Moved.{Moved}
 use Rattle.blocking.specs.declared.Half.{Half}
-use Rattle.blocking.specs.declared.Ran.{Ran}
-use Rattle.parked.specs.Kinds.{incoming}
+use Rattle.runs.specs.declared.Ran.{Ran}
+use Rattle.phases.specs.Kinds.{incoming}
 use Rattle.parked.specs.After.{answer}
-use Rattle.blocking.specs.Run.{Outcome, stopped, joined, runs, Whole}
+use Rattle.runs.specs.Run.{Outcome, stopped, joined, runs, Whole}
 
 -- what is returned where no access follows
 pub record Answered (p : Progress) (e : End) (r : Ran) : Type 0 where

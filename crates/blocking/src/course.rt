@@ -1,32 +1,32 @@
 // A call that is not wrong, over the words. What follows plainly is made at once, on plain numbers; whatever else comes goes on in the
 // transfer loop.
-ghost use Prim.Native.Nat.{ℕ, _/_, _≤_};
+ghost use Prim.Native.Nat.{ℕ, _≤_};
 ghost use mathlib.Core.Path.{_≡_};
-ghost use mathlib.Core.Bool.{true, false, cond};
+ghost use mathlib.Core.Bool.{cond};
 ghost use mathlib.Core.List.{List};
 ghost use lib.ListN.{length};
-ghost use Rattle.blocking.specs.Run.{runs, room, Whole};
+ghost use Rattle.runs.specs.Run.{runs, room, Whole};
 ghost use Rattle.blocking.specs.Steps.{Carried, Finished, Turns, Reaches, Asks, waiting, atStop};
-ghost use Rattle.parked.specs.Kinds.{incoming};
+ghost use Rattle.phases.specs.Kinds.{incoming};
 use crate::Half;
 use crate::Moved;
 use crate::Progress;
-use crate::Ran;
 use crate::Turn;
 use crate::opening::opened;
 use crate::run::transfer;
 use crate::stretch::receive_bytes;
 use crate::stretch::send_bytes;
 use answers::Answer;
+use flags::Found;
+use flags::Icr;
+use flags::Isr;
+use flags::Wanted;
 use parked::End;
 use parked::Kind;
 use parked::Parked;
 use parked::Phase;
 use registers::cr2::Cr2;
-use registers::isr::Found;
-use registers::isr::Icr;
-use registers::isr::Isr;
-use registers::isr::Wanted;
+use runs::Ran;
 
 // Bytes go out, where the call sends.
 fn sent(call: Parked, m: Moved, send: &[u8], words: &[u32], log: &mut [u32]) -> Moved

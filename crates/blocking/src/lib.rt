@@ -1,27 +1,21 @@
 // The blocking driver of the I2C unit: calls that are begun, run over the words that were read, and park where a word or
 // room in the log is missing.
-use answers::Answer;
+// What a run means, with its laws, stands in `runs`, and the calls that never wait in `never_wait`; both are handed on here.
+pub use never_wait::Event;
+pub use never_wait::construct;
+pub use never_wait::interrupts;
 use parked::End;
 use parked::Parked;
+pub use runs::Ran;
+pub use runs::laws;
 
-pub mod construct;
 mod course;
-pub mod interrupts;
-pub mod laws;
 pub mod master;
 mod opening;
 pub mod run;
 pub mod slave;
 mod step;
 mod stretch;
-
-// What a run returns: its answer, the parked call, how many words it took, and how many places of the log it filled.
-pub struct Ran {
-    pub answer: Answer,
-    pub parked: Parked,
-    pub taken: usize,
-    pub logged: usize,
-}
 
 // Whether the wait goes on, the wanted flag is found, or no access follows.
 pub enum Turn {
@@ -55,10 +49,4 @@ pub struct Opened {
 pub struct Half {
     pub parked: Parked,
     pub moved: Moved,
-}
-
-// What the blocking `listen` can ask for.
-pub enum Event {
-    AddressMatch,
-    Rxne,
 }

@@ -1,9 +1,9 @@
 // The master's calls, begun and run. Where a word or room in the log is missing the call parks, and `resume` goes on with it.
 ghost use mathlib.Core.List.{[]};
-ghost use Rattle.blocking.specs.Run.{called, room, Whole};
-use crate::Ran;
+ghost use Rattle.runs.specs.Run.{called, room, Whole};
 use crate::run::begin;
 use parked::Kind;
+use runs::Ran;
 
 pub fn write(address: u8, bytes: &[u8], words: &[u32], log: &mut [u32]) -> Ran
     ensures { λ r. ⌜ Whole (called Kind.Write address (now (bytes .entry)) (room (now (log .entry))) [] (now (words .entry))) (now (log .entry)) r (now (log .exit)) [] ⌝ }

@@ -1,20 +1,20 @@
 // The accesses before the first wait, made at once where START is clear and no word and no room is missing.
 ghost use Prim.Native.Nat.{ℕ, _≤_};
 ghost use mathlib.Core.Path.{_≡_};
-ghost use mathlib.Core.Bool.{true, false};
+ghost use mathlib.Core.Bool.{false};
 ghost use mathlib.Core.List.{List};
 ghost use lib.ListN.{length, getD};
-ghost use Rattle.registers.specs.Words.{starting};
+ghost use Rattle.layout.specs.Words.{starting};
 ghost use Rattle.blocking.specs.Steps.{Carried, Opens, fresh, waiting};
 use crate::Moved;
 use crate::Opened;
+use flags::Isr;
 use parked::Kind;
 use parked::Opening;
 use parked::Parked;
 use parked::Phase;
 use registers::cr2::Cr2;
 use registers::data::Rxdr;
-use registers::isr::Isr;
 
 // START is clear, and a `modify` of CR2.
 fn open_write(call: Parked, words: &[u32], log: &mut [u32]) -> Moved

@@ -1,11 +1,10 @@
 // Running a call: one access after the other, until it is over or parks.
-ghost use Prim.Native.Nat.{_/_, _≤_};
+ghost use Prim.Native.Nat.{_≤_};
 ghost use mathlib.Core.Path.{_≡_};
 ghost use lib.ListN.{length};
-ghost use Rattle.blocking.specs.Run.{outcome, called, resumed, room, Whole};
+ghost use Rattle.runs.specs.Run.{outcome, called, resumed, room, Whole};
 ghost use Rattle.blocking.specs.Steps.{Answered, Forward, Finished};
 use crate::Progress;
-use crate::Ran;
 use crate::Turn;
 use crate::course::course;
 use crate::step::advance;
@@ -15,6 +14,7 @@ use parked::End;
 use parked::Kind;
 use parked::Parked;
 use parked::Phase;
+use runs::Ran;
 
 // One access of a run, over the words from the first one not taken and the log from its first free place.
 // It and `forward_byte` are called in one place each, so that they are inlined there and no parked call is copied.

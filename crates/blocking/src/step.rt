@@ -3,19 +3,19 @@ ghost use mathlib.Core.Path.{_≡_};
 ghost use mathlib.Core.Bool.{true, false};
 ghost use mathlib.Core.List.{List};
 ghost use Prim.Native.Nat.{ℕ};
-ghost use lib.ListN.{getD};
-ghost use Rattle.parked.specs.Kinds.{incoming};
-ghost use Rattle.blocking.specs.Run.{kept};
+ghost use Rattle.phases.specs.Kinds.{incoming};
 ghost use Rattle.blocking.specs.Steps.{Told, Turned};
 use crate::Progress;
 use crate::Turn;
+use flags::Isr;
 use parked::End;
 use parked::Next;
 use parked::Parked;
 use parked::Phase;
 use registers::data::Rxdr;
 use registers::data::Txdr;
-use registers::isr::Isr;
+use runs::byte_at;
+use runs::keep_byte;
 
 fn turn(call: Parked) -> Turn
     ensures { λ r. ⌜ Told r call ⌝ }
@@ -28,30 +28,6 @@ fn turn(call: Parked) -> Turn
         return Turn::Found;
     }
     Turn::Again
-}
-
-// The byte to send, 0x21 after the last.
-fn byte_at(bytes: &[u8], place: usize) -> u8
-    ensures { λ r. ⌜ r ≡ getD (now (bytes .entry)) place 0x21 ⌝ }
-{
-    if place < bytes.len() {
-        bytes[place]
-    } else {
-        0x21
-    }
-}
-
-// A byte that came in goes to its place.
-fn keep_byte(keep: bool, place: usize, word: u32, receive: &mut [u8])
-    ensures { λ r. ⌜ now (receive .exit) ≡ kept keep place word (now (receive .entry)) ⌝ }
-{
-    if keep {
-        if place < receive.len() {
-            receive[place] = Rxdr::received(word);
-            return;
-        }
-        return;
-    }
 }
 
 // No access is made: the call is over, or parks.

@@ -3,9 +3,9 @@ ghost use Prim.Native.Nat.{_≤_};
 ghost use lib.ListN.{length};
 ghost use Rattle.blocking.specs.Steps.{Sends, Receives};
 use crate::Moved;
+use flags::Isr;
 use registers::data::Rxdr;
 use registers::data::Txdr;
-use registers::isr::Isr;
 
 // Bytes go out while one is left.
 pub(crate) fn send_bytes(from: Moved, send: &[u8], words: &[u32], log: &mut [u32]) -> Moved

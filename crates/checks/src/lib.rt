@@ -19,8 +19,8 @@ use access::Report;
 use access::refused;
 use access::word_at;
 use answers::Answer;
-use registers::isr::Flag;
-use registers::isr::Isr;
+use flags::Flag;
+use flags::Isr;
 use starts::impossible;
 
 mod steps;

@@ -17,12 +17,12 @@ use access::settle;
 use access::word_at;
 use answers::Answer;
 use fields::Field;
+use flags::Flag;
+use flags::Icr;
+use flags::Isr;
 use registers::cr2::Cr2;
 use registers::data::Rxdr;
 use registers::data::Txdr;
-use registers::isr::Flag;
-use registers::isr::Icr;
-use registers::isr::Isr;
 
 // One more error; the count stops at its top.
 pub(crate) fn one_more(errors: u32) -> u32

@@ -4,13 +4,13 @@ use mathlib.Core.Bool.{Bool, true, false, cond}
 use mathlib.Core.List.{List, [], _∷_, _++_}
 use lib.Dec.{ltb}
 use lib.ListN.{length, getD}
-use Rattle.registers.specs.declared.config.Config.{Config}
+use Rattle.config.specs.declared.Config.{Config}
 use Rattle.construction.specs.declared.Basics.{Basics}
-use Rattle.registers.specs.Layout.{Register, CR1, OAR1, OAR2, TIMINGR}
-use Rattle.registers.specs.Words.{powered, configured, byteControl, ownSecond}
+use Rattle.layout.specs.Layout.{Register, CR1, OAR1, OAR2, TIMINGR}
+use Rattle.layout.specs.Words.{powered, configured, byteControl, ownSecond}
 use Rattle.access.specs.Access.{Access, read, write, Settled, refusal, settled}
 use Rattle.answers.specs.Answers.{says}
-use Rattle.registers.specs.Config.{maskNumber, timingBits}
+use Rattle.config.specs.Config.{maskNumber, timingBits}
 
 -- an own address above 0: its register, then slave byte control
 abbrev pub ownAddress : Bool → Register → ℕ → ℕ → List Access

@@ -7,10 +7,10 @@ use mathlib.Core.Option.{Option, none, some}
 use mathlib.Core.List.{List, [], _∷_, map}
 use lib.ListN.{length, getElem?, replicate}
 use lib.Dec.{eqb, ltb}
-use Rattle.registers.specs.declared.isr.Flag.{Flag}
-use Rattle.registers.specs.declared.isr.Flag.the-variants.{Berr, Arlo, Nackf, Txis, Rxne, Stopf, Tc, Tcr, Addr, Nothing}
-use Rattle.registers.specs.Layout.{Register, CR1, CR2, OAR1, OAR2, TIMINGR, ISR, ICR, RXDR, TXDR, DIR, START, RXDATA, _⟨_⟩, _has_}
-use Rattle.registers.specs.Flags.{takenAs}
+use Rattle.flags.specs.declared.Flag.{Flag}
+use Rattle.flags.specs.declared.Flag.the-variants.{Berr, Arlo, Nackf, Txis, Rxne, Stopf, Tc, Tcr, Addr, Nothing}
+use Rattle.layout.specs.Layout.{Register, CR1, CR2, OAR1, OAR2, TIMINGR, ISR, ICR, RXDR, TXDR, DIR, START, RXDATA, _⟨_⟩, _has_}
+use Rattle.flags.specs.Flags.{takenAs}
 use Rattle.access.specs.Access.{Access, read, write}
 use Rattle.answers.specs.Answers.{Said, says}
 use Rattle.ending.specs.Call.{masterWrites, slaveWrites, masterReads, checks, tellsErrors, showsMaster, other, roleOf, isStart}

@@ -7,10 +7,10 @@ use mathlib.Core.Option.{none, some}
 use mathlib.Core.List.{List, [], _∷_}
 use lib.ListN.{take}
 use Rattle.fields.specs.Field.{get, put, isSet}
-use Rattle.registers.specs.Layout.{CR2, ISR, TXDR}
-use Rattle.registers.specs.Words.{starting, sized}
-use Rattle.registers.specs.Words.{started as startWord}
-use Rattle.registers.specs.Flags.{takenAs, directionOf}
+use Rattle.layout.specs.Layout.{CR2, ISR, TXDR}
+use Rattle.layout.specs.Words.{starting, sized}
+use Rattle.layout.specs.Words.{started as startWord}
+use Rattle.flags.specs.Flags.{takenAs, directionOf}
 use Rattle.access.specs.Access.{Access, read, write}
 use Rattle.answers.specs.Answers.{says}
 use Rattle.ending.specs.Link.{oneMore, impossible}

@@ -5,10 +5,10 @@ use mathlib.Core.Path.{_≡_, refl}
 use mathlib.Core.Logic.{_⊎_, inl, inr}
 use mathlib.Core.Bool.{Bool, true, false, _&&_, not}
 use mathlib.Core.List.{List, [], _∷_}
-use Rattle.registers.specs.declared.isr.Flag.{Flag}
-use Rattle.registers.specs.declared.isr.Flag.the-variants.{Berr, Arlo, Nackf, Txis, Rxne, Stopf, Tc, Tcr, Addr, Nothing}
-use Rattle.registers.specs.Layout.{Register}
-use Rattle.registers.specs.Flags.{takenAs}
+use Rattle.flags.specs.declared.Flag.{Flag}
+use Rattle.flags.specs.declared.Flag.the-variants.{Berr, Arlo, Nackf, Txis, Rxne, Stopf, Tc, Tcr, Addr, Nothing}
+use Rattle.layout.specs.Layout.{Register}
+use Rattle.flags.specs.Flags.{takenAs}
 use Rattle.access.specs.Access.{Access, read, write}
 use Rattle.answers.specs.Answers.{says}
 use Rattle.ending.specs.Call.{Call, masterWrite, masterWriteRead, masterRead, slaveWrite, checkIsrFlags, executeWatchdog, getErrorsReset, masterGetData, slaveGetData, getAddress, listen, unlisten, slaveSbc, setAddress, roleOf}

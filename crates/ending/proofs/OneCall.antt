@@ -5,9 +5,9 @@ use mathlib.Core.Bool.{Bool, true, false}
 use mathlib.Core.List.{List, [], _∷_}
 use lib.ListN.{length, replicate}
 use lib.Dec.{T, eqb, ltb, leb, leb→le}
-use Rattle.registers.specs.Layout.{CR2, ISR}
-use Rattle.registers.specs.Words.{starting}
-use Rattle.registers.specs.Flags.{takenAs}
+use Rattle.layout.specs.Layout.{CR2, ISR}
+use Rattle.layout.specs.Words.{starting}
+use Rattle.flags.specs.Flags.{takenAs}
 use Rattle.access.specs.Access.{Access, read, reads, entries}
 use Rattle.answers.specs.Answers.{Said, says}
 use Rattle.ending.specs.Link.{Link}

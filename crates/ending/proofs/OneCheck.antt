@@ -7,10 +7,10 @@ use native.Mathlib.Omega.{arith}
 use lib.ListN.{length, getD}
 use lib.Dec.{T, eqb, ltb}
 use borrow.Author.Tests.{ltb-true}
-use Rattle.registers.specs.declared.isr.Flag.{Flag}
-use Rattle.registers.specs.declared.isr.Flag.the-variants.{Berr, Arlo, Nackf, Txis, Rxne, Stopf, Tc, Tcr, Addr, Nothing}
-use Rattle.registers.specs.Layout.{CR2, TXDR, DIR, RXNE, _has_}
-use Rattle.registers.specs.Words.{sadd16, started, sent, received}
+use Rattle.flags.specs.declared.Flag.{Flag}
+use Rattle.flags.specs.declared.Flag.the-variants.{Berr, Arlo, Nackf, Txis, Rxne, Stopf, Tc, Tcr, Addr, Nothing}
+use Rattle.layout.specs.Layout.{CR2, TXDR, DIR, RXNE, _has_}
+use Rattle.layout.specs.Words.{sadd16, started, sent, received}
 use Rattle.access.specs.Access.{Access, write, reads, entries}
 use Rattle.answers.specs.Answers.{Said, says}
 use Rattle.ending.specs.Link.{Link}

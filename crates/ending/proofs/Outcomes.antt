@@ -8,10 +8,10 @@ use lib.ListN.{length, getD, take}
 use lib.Dec.{ltb, leb, leb·zero}
 use borrow.Author.Tests.{ltb-false, leb-true}
 use Rattle.access.specs.declared.Report.{Report}
-use Rattle.registers.specs.declared.isr.Flag.{Flag}
+use Rattle.flags.specs.declared.Flag.{Flag}
 use Rattle.answers.specs.declared.Answer.{Answer}
 use Rattle.answers.specs.Answers.{Said, said}
-use Rattle.registers.specs.Flags.{takenAs}
+use Rattle.flags.specs.Flags.{takenAs}
 use Rattle.ending.specs.Link.{Link}
 use Rattle.ending.specs.Link.{impossible, impossibleAt}
 use Rattle.ending.specs.Call.{Call, Step, checkIsrFlags}

@@ -6,9 +6,9 @@ use mathlib.Core.List.{List, [], _∷_, map}
 use lib.ListN.{take}
 use lib.Dec.{T}
 use Rattle.fields.specs.Field.{get, put, isSet}
-use Rattle.registers.specs.Words.{sized}
-use Rattle.registers.specs.Words.{started as startWord}
-use Rattle.registers.specs.Flags.{takenAs, directionOf}
+use Rattle.layout.specs.Words.{sized}
+use Rattle.layout.specs.Words.{started as startWord}
+use Rattle.flags.specs.Flags.{takenAs, directionOf}
 use Rattle.answers.specs.Answers.{says}
 use Rattle.ending.specs.Link.{fresh, oneMore, impossible}
 use Rattle.ending.specs.Call.{Call, Step, masterWrite, masterWriteRead, masterRead, checkIsrFlags, masterGetData, roleOf, isStart}

@@ -3,9 +3,9 @@ use mathlib.Core.Path.{_≡_, refl}
 use mathlib.Core.List.{List, [], _∷_, map}
 use Prim.Native.Nat.{ℕ}
 use Rattle.fields.specs.Field.{get, put, isSet}
-use Rattle.registers.specs.Layout.{CR2, ISR, ICR, TXDR, RXDR}
-use Rattle.registers.specs.Words.{started}
-use Rattle.registers.specs.Flags.{takenAs, directionOf}
+use Rattle.layout.specs.Layout.{CR2, ISR, ICR, TXDR, RXDR}
+use Rattle.layout.specs.Words.{started}
+use Rattle.flags.specs.Flags.{takenAs, directionOf}
 use Rattle.access.specs.Access.{Access, read, write}
 use Rattle.answers.specs.Answers.{Said, says}
 use Rattle.ending.specs.Link.{fresh, impossible}

@@ -4,11 +4,11 @@ use mathlib.Core.Bool.{Bool, true, false, _&&_}
 use mathlib.Core.List.{List, [], _∷_}
 use lib.ListN.{length, getD, take, set, replicate}
 use lib.Dec.{eqb, ltb, leb}
-use Rattle.registers.specs.declared.isr.Flag.{Flag}
-use Rattle.registers.specs.declared.isr.Flag.the-variants.{Berr, Arlo, Nackf, Txis, Rxne, Stopf, Tc, Tcr, Addr, Nothing}
-use Rattle.registers.specs.Layout.{CR1, CR2, OAR1, ISR, ICR, RXDR, TXDR, RXNE, ADDR, NACKF, STOPF, BERR, ARLO, DIR, _has_}
-use Rattle.registers.specs.Words.{powered, interrupts, byteControl, sadd16, starting, started, sized, refused, stopped, ownSeven, flushed, cleared, sent, received}
-use Rattle.registers.specs.Flags.{takenAs, directionOf, addressCode}
+use Rattle.flags.specs.declared.Flag.{Flag}
+use Rattle.flags.specs.declared.Flag.the-variants.{Berr, Arlo, Nackf, Txis, Rxne, Stopf, Tc, Tcr, Addr, Nothing}
+use Rattle.layout.specs.Layout.{CR1, CR2, OAR1, ISR, ICR, RXDR, TXDR, RXNE, ADDR, NACKF, STOPF, BERR, ARLO, DIR, _has_}
+use Rattle.layout.specs.Words.{powered, interrupts, byteControl, sadd16, starting, started, sized, refused, stopped, ownSeven, flushed, cleared, sent, received}
+use Rattle.flags.specs.Flags.{takenAs, directionOf, addressCode}
 use Rattle.access.specs.Access.{Access, read, write, over}
 use Rattle.answers.specs.Answers.{Said, says, directionNumber}
 use Rattle.ending.specs.Link.{Link}

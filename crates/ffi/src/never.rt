@@ -2,8 +2,8 @@
 ghost use mathlib.Core.Bool.{true, false};
 ghost use lib.ListN.{length};
 ghost use Rattle.access.specs.Access.{Reported};
-ghost use Rattle.blocking.specs.Construct.{construction};
-ghost use Rattle.blocking.specs.NeverWait.{slaveAddressed, slaveSbc, interrupt, clearIrq};
+ghost use Rattle.never_wait.specs.Construct.{construction};
+ghost use Rattle.never_wait.specs.NeverWait.{slaveAddressed, slaveSbc, interrupt, clearIrq};
 ghost use Rattle.flat.specs.Configured.{configOf, eventOf};
 ghost use Rattle.flat.specs.Out.{Out};
 use blocking::construct;

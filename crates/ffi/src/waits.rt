@@ -1,13 +1,14 @@
 // The calls of the blocking driver that wait. A call that parks is kept by the caller as seven numbers, and `i2c_blocking_resume` goes on with it.
 ghost use mathlib.Core.List.{[]};
-ghost use Rattle.blocking.specs.Run.{called, outcome, room, Whole};
-ghost use Rattle.flat.specs.Kept.{Left, takenUp};
-ghost use Rattle.parked.specs.declared.Kind.the-variants.{Write, Read, WriteRead, SlaveWrite, SlaveRead, SlaveWaitAddressed};
+ghost use Rattle.runs.specs.Run.{called, outcome, room, Whole};
+ghost use Rattle.kept.specs.Kept.{takenUp};
+ghost use Rattle.flat.specs.Left.{Left};
+ghost use Rattle.phases.specs.declared.Kind.the-variants.{Write, Read, WriteRead, SlaveWrite, SlaveRead, SlaveWaitAddressed};
 use blocking::master;
 use blocking::run::run;
 use blocking::slave;
-use flat::kept::take_up;
 use flat::leave;
+use kept::take_up;
 
 #[no_mangle]
 pub extern "C" fn i2c_blocking_write(

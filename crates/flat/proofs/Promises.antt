@@ -5,11 +5,12 @@ use mathlib.Core.Path.{_≡_}
 use mathlib.Core.List.{List, [], _∷_}
 use lib.ListN.{getD}
 use Rattle.access.specs.declared.Report.{Report}
-use Rattle.blocking.specs.declared.Ran.{Ran}
+use Rattle.runs.specs.declared.Ran.{Ran}
 use Rattle.parked.specs.declared.Parked.{Parked}
 use Rattle.answers.specs.Answers.{said}
 use Rattle.flat.specs.Out.{Out}
-use Rattle.flat.specs.Kept.{kindNumber, phaseNumber, phaseWord, laid, takenUp, KeptCall, Left}
+use Rattle.kept.specs.Kept.{kindNumber, phaseNumber, phaseWord, laid, takenUp, KeptCall}
+use Rattle.flat.specs.Left.{Left}
 
 -- a report of which the contract holds, and its numbers: the answer's, the words taken, the places logged, and the answer's values
 out-promised : (holds : Report → Type 0) (out : List ℕ) → Out holds out →

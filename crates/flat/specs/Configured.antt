@@ -4,13 +4,13 @@ use mathlib.Core.Bool.{cond}
 use mathlib.Core.List.{List, [], _∷_}
 use lib.Dec.{ltb}
 use lib.ListN.{getD}
-use Rattle.blocking.specs.declared.Event.{Event}
-use Rattle.blocking.specs.declared.Event.the-variants.{AddressMatch, Rxne}
-use Rattle.registers.specs.declared.config.Config.{Config}
-use Rattle.registers.specs.declared.config.Setting.{Setting}
-use Rattle.registers.specs.declared.config.Setting.the-variants.{Unset, Set}
-use Rattle.registers.specs.declared.config.SlaveAddressMask.{SlaveAddressMask}
-use Rattle.registers.specs.declared.config.SlaveAddressMask.the-variants.{MaskNone, MaskOneBit, MaskTwoBits, MaskThreeBits, MaskFourBits, MaskFiveBits, MaskSixBits, MaskAllBits}
+use Rattle.never_wait.specs.declared.Event.{Event}
+use Rattle.never_wait.specs.declared.Event.the-variants.{AddressMatch, Rxne}
+use Rattle.config.specs.declared.Config.{Config}
+use Rattle.config.specs.declared.Setting.{Setting}
+use Rattle.config.specs.declared.Setting.the-variants.{Unset, Set}
+use Rattle.config.specs.declared.SlaveAddressMask.{SlaveAddressMask}
+use Rattle.config.specs.declared.SlaveAddressMask.the-variants.{MaskNone, MaskOneBit, MaskTwoBits, MaskThreeBits, MaskFourBits, MaskFiveBits, MaskSixBits, MaskAllBits}
 
 -- a number that is not 0 says that the value is set
 abbrev pub settingOf : ℕ → ℕ → Setting

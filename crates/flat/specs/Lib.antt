@@ -1,3 +1,3 @@
 pub mod Configured
-pub mod Kept
+pub mod Left
 pub mod Out

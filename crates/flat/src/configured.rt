@@ -3,9 +3,9 @@ ghost use mathlib.Core.Path.{_≡_};
 ghost use lib.Dec.{ltb};
 ghost use Rattle.flat.specs.Configured.{settingOf, maskOf, configOf, eventOf};
 use blocking::Event;
-use registers::config::Config;
-use registers::config::Setting;
-use registers::config::SlaveAddressMask;
+use config::Config;
+use config::Setting;
+use config::SlaveAddressMask;
 
 pub fn config_of(numbers: &[u32; 10]) -> Config
     ensures { λ r. ⌜ r ≡ configOf (now (numbers .entry)) ⌝ }

@@ -1,13 +1,12 @@
 // Answers, parked calls and configurations as numbers.
 ghost use mathlib.Core.Path.{_≡_};
 ghost use Rattle.answers.specs.Answers.{said};
-ghost use Rattle.flat.specs.Kept.{laid};
+ghost use Rattle.kept.specs.Kept.{laid};
 ghost use Rattle.flat.specs.Out.{six};
 use access::Report;
 use blocking::Ran;
 
 pub mod configured;
-pub mod kept;
 pub mod out;
 
 // What a run returned: the parked call and the answer.

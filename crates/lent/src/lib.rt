@@ -7,8 +7,6 @@ use access::Report;
 use checks::check_fields;
 use nonblocking::link::Link;
 
-mod parts;
-
 // `check_isr_flags` on a lent link.
 pub fn check_isr_flags(link: &mut Link, words: &[u32], log: &mut [u32]) -> Report
     ensures { λ r. ⌜ Matches (outcome (record { call = checkIsrFlags; words = now (words .entry); places = size (now (log .entry)) }) (model (now (link .entry)))) r (model (now (link .exit))) (now (log .entry)) (now (log .exit)) ⌝ }
@@ -36,7 +34,7 @@ pub fn master_write(
 ) -> Report
     ensures { λ r. ⌜ Matches (outcome (record { call = masterWrite addr (now (bytes .entry)); words = now (words .entry); places = size (now (log .entry)) }) (model (now (link .entry)))) r (model (now (link .exit))) (now (log .entry)) (now (log .exit)) ⌝ }
 {
-    parts::write(
+    lent_fields::write(
         &mut link.address,
         &mut link.watchdog,
         &mut link.index,
@@ -62,7 +60,7 @@ pub fn master_write_read(
 ) -> Report
     ensures { λ r. ⌜ Matches (outcome (record { call = masterWriteRead addr (now (bytes .entry)) «read_len»; words = now (words .entry); places = size (now (log .entry)) }) (model (now (link .entry)))) r (model (now (link .exit))) (now (log .entry)) (now (log .exit)) ⌝ }
 {
-    parts::write_read(
+    lent_fields::write_read(
         &mut link.address,
         &mut link.watchdog,
         &mut link.index,
@@ -88,7 +86,7 @@ pub fn master_read(
 ) -> Report
     ensures { λ r. ⌜ Matches (outcome (record { call = masterRead addr «read_len»; words = now (words .entry); places = size (now (log .entry)) }) (model (now (link .entry)))) r (model (now (link .exit))) (now (log .entry)) (now (log .exit)) ⌝ }
 {
-    parts::read(
+    lent_fields::read(
         &mut link.address,
         &mut link.watchdog,
         &mut link.index,
@@ -107,7 +105,7 @@ pub fn master_read(
 pub fn slave_write(link: &mut Link, bytes: &[u8], words: &[u32], log: &mut [u32]) -> Report
     ensures { λ r. ⌜ Matches (outcome (record { call = slaveWrite (now (bytes .entry)); words = now (words .entry); places = size (now (log .entry)) }) (model (now (link .entry)))) r (model (now (link .exit))) (now (log .entry)) (now (log .exit)) ⌝ }
 {
-    parts::slave_write(
+    lent_fields::slave_write(
         &mut link.address,
         &mut link.watchdog,
         &mut link.index,
@@ -125,7 +123,7 @@ pub fn slave_write(link: &mut Link, bytes: &[u8], words: &[u32], log: &mut [u32]
 pub fn execute_watchdog(link: &mut Link, words: &[u32], log: &mut [u32]) -> Report
     ensures { λ r. ⌜ Matches (outcome (record { call = executeWatchdog; words = now (words .entry); places = size (now (log .entry)) }) (model (now (link .entry)))) r (model (now (link .exit))) (now (log .entry)) (now (log .exit)) ⌝ }
 {
-    parts::execute_watchdog(
+    lent_fields::execute_watchdog(
         &mut link.address,
         &mut link.watchdog,
         &mut link.index,

@@ -5,7 +5,7 @@ use mathlib.Core.Path.{_≡_, refl}
 use mathlib.Core.List.{List}
 use lib.ListN.{length, replicate}
 use Rattle.access.specs.declared.Report.{Report}
-use Rattle.registers.specs.declared.config.Config.{Config}
+use Rattle.config.specs.declared.Config.{Config}
 use Rattle.access.specs.Access.{Reported}
 use Rattle.nonblocking.specs.declared.link.Link.{Link}
 use Rattle.nonblocking.specs.Model.{model}

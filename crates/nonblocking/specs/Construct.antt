@@ -5,10 +5,10 @@ use mathlib.Core.Bool.{Bool, true, false}
 use mathlib.Core.List.{List}
 use lib.ListN.{length}
 use Rattle.access.specs.declared.Report.{Report}
-use Rattle.registers.specs.declared.config.Config.{Config}
+use Rattle.config.specs.declared.Config.{Config}
 use Rattle.access.specs.Access.{Settled, Reported}
 use Rattle.construction.specs.SetUp.{setUp}
-use Rattle.registers.specs.Words.{ownSeven, ownTen}
+use Rattle.layout.specs.Words.{ownSeven, ownTen}
 use Rattle.nonblocking.specs.declared.link.Link.{Link}
 use Rattle.nonblocking.specs.Model.{model}
 use Rattle.ending.specs.Link.{fresh}

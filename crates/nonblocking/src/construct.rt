@@ -7,8 +7,8 @@ ghost use Rattle.ending.specs.Link.{fresh};
 ghost use Rattle.nonblocking.specs.Construct.{ownAddress, Constructed};
 use crate::link::Called;
 use crate::link::Link;
+use config::Config;
 use construction::set_up;
-use registers::config::Config;
 use registers::oar::Oar1;
 
 impl Link {

@@ -5,12 +5,13 @@ use mathlib.Core.Bool.{Bool, true, false, cond}
 use native.Mathlib.Omega.{arith}
 use borrow.Author.Tests.{ltb-true}
 use lib.Dec.{ltb}
-use Rattle.parked.specs.declared.Role.{Role}
-use Rattle.parked.specs.declared.Role.the-variants.{Byte, Second, Other, Nothing}
+use Rattle.phases.specs.declared.Role.{Role}
+use Rattle.phases.specs.declared.Role.the-variants.{Byte, Second, Other, Nothing}
 use Rattle.parked.specs.declared.Parked.{Parked}
-use Rattle.parked.specs.Kinds.{incoming}
+use Rattle.phases.specs.Kinds.{incoming}
 use Rattle.parked.specs.Wants.{span, more}
-use Rattle.parked.specs.After.{role, movesAs, moves}
+use Rattle.parked.specs.After.{movesAs, moves}
+use Rattle.phases.specs.Phases.{role}
 
 moved : (r : Role) (t : Bool) → movesAs r t ≡ true → t ≡ true
 moved Byte t e = e

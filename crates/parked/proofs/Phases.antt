@@ -2,11 +2,11 @@
 use Prim.Native.Nat.{ℕ, _+_}
 use mathlib.Core.Path.{_≡_, ap}
 use mathlib.Core.Bool.{cond}
-use Rattle.parked.specs.declared.Phase.{Phase}
-use Rattle.parked.specs.declared.Phase.the-variants.{Wait, Transfer}
+use Rattle.phases.specs.declared.Phase.{Phase}
+use Rattle.phases.specs.declared.Phase.the-variants.{Wait, Transfer}
 use Rattle.parked.specs.declared.Next.{Next}
 use Rattle.parked.specs.declared.Parked.{Parked}
-use Rattle.registers.specs.Flags.{foundIn}
+use Rattle.flags.specs.Flags.{foundIn}
 use Rattle.parked.specs.Wants.{more, wants, wantsAt}
 use Rattle.parked.specs.After.{phaseAt, afterFound, wanted, turns, moves, after}
 

@@ -1,39 +1,26 @@
 -- The parked call after its access. `w` is the word that the access read; after a write it does not matter.
 use Prim.Native.Nat.{ℕ, _+_}
-use mathlib.Core.Bool.{Bool, true, false, cond}
+use mathlib.Core.Bool.{Bool, false, cond}
 use mathlib.Core.List.{[], _∷_}
 use lib.Dec.{eqb}
 use Rattle.answers.specs.Answers.{Said, says, directionNumber}
-use Rattle.registers.specs.declared.isr.Wanted.{Wanted}
-use Rattle.registers.specs.declared.isr.Wanted.the-variants.{Txis as WantTxis, Rxne as WantRxne, Tc as WantTc}
-use Rattle.registers.specs.declared.isr.Found.{Found}
-use Rattle.registers.specs.declared.isr.Found.the-variants.{Wanted as Met, Berr as MetBerr, Arlo as MetArlo, Nackf as MetNackf, Tcr as MetTcr, Addr as MetAddr, Stopf as MetStopf, Nothing as MetNothing}
-use Rattle.registers.specs.Layout.{TXE, TXIS, RXNE, ADDR, _has_}
-use Rattle.registers.specs.Words.{starting}
-use Rattle.registers.specs.Flags.{foundIn, directionOf, addressCode}
-use Rattle.parked.specs.declared.Kind.{Kind}
-use Rattle.parked.specs.declared.Kind.the-variants.{ReadBack}
-use Rattle.parked.specs.declared.Opening.{Opening}
-use Rattle.parked.specs.declared.Opening.the-variants.{Start, Drain, Modify, Setup, Flush, Release, Probe, Drop}
-use Rattle.parked.specs.declared.End.{End}
-use Rattle.parked.specs.declared.End.the-variants.{OutOfWords, LogFull, BadLength, Berr, Arlo, Addr, Stopf, Addressed}
-use Rattle.parked.specs.declared.Role.{Role}
-use Rattle.parked.specs.declared.Role.the-variants.{Byte, Second, Other, Nothing}
-use Rattle.parked.specs.declared.Phase.{Phase}
-use Rattle.parked.specs.declared.Phase.the-variants.{Open, Wait, Transfer, Restart, Stretched, Refuse, ClearBerr, ClearArlo, ClearNackf, ClearStopf, FlushTxis, FlushDummy, FlushTxe, FlushEmpty, Listen, Code, Ended}
+use Rattle.flags.specs.declared.Wanted.{Wanted}
+use Rattle.flags.specs.declared.Wanted.the-variants.{Txis as WantTxis, Rxne as WantRxne, Tc as WantTc}
+use Rattle.flags.specs.declared.Found.{Found}
+use Rattle.flags.specs.declared.Found.the-variants.{Wanted as Met, Berr as MetBerr, Arlo as MetArlo, Nackf as MetNackf, Tcr as MetTcr, Addr as MetAddr, Stopf as MetStopf, Nothing as MetNothing}
+use Rattle.layout.specs.Layout.{TXE, TXIS, ADDR, _has_}
+use Rattle.flags.specs.Flags.{foundIn, directionOf, addressCode}
+use Rattle.phases.specs.declared.Kind.the-variants.{ReadBack}
+use Rattle.phases.specs.declared.End.{End}
+use Rattle.phases.specs.declared.End.the-variants.{OutOfWords, LogFull, BadLength, Berr, Arlo, Addr, Stopf, Addressed}
+use Rattle.phases.specs.declared.Role.{Role}
+use Rattle.phases.specs.declared.Role.the-variants.{Byte, Second, Other, Nothing}
+use Rattle.phases.specs.declared.Phase.{Phase}
+use Rattle.phases.specs.declared.Phase.the-variants.{Open, Wait, Transfer, Restart, Stretched, Refuse, ClearBerr, ClearArlo, ClearNackf, ClearStopf, FlushTxis, FlushDummy, FlushTxe, FlushEmpty, Listen, Code, Ended}
 use Rattle.parked.specs.declared.Parked.{Parked}
-use Rattle.parked.specs.Kinds.{incoming, restarts, pads, afterStart, afterSetup, afterFlush, afterRelease}
+use Rattle.phases.specs.Kinds.{incoming, restarts, pads}
 use Rattle.parked.specs.Wants.{span, more}
-
-abbrev pub afterOpening : Opening → Kind → ℕ → Phase
-afterOpening Start k w = cond (starting w) (Open Start) (Open (afterStart k))
-afterOpening Drain k w = Open Modify
-afterOpening Modify k w = Open (Setup w)
-afterOpening (Setup cr2) k w = afterSetup k
-afterOpening Flush k w = Open (afterFlush k)
-afterOpening Release k w = afterRelease k
-afterOpening Probe k w = cond (w has RXNE) (Open Drop) Wait
-afterOpening Drop k w = Wait
+use Rattle.phases.specs.Phases.{afterOpening, role}
 
 -- the wait for TC: a `write_read` has sent its bytes
 unfoldable pub tcWait : Parked → Bool
@@ -103,26 +90,6 @@ phaseAt FlushEmpty p w = ClearStopf
 phaseAt Listen p w = cond (w has ADDR) Code Listen
 phaseAt Code p w = Ended (Addressed w)
 phaseAt (Ended end) p w = Ended end
-
--- what the access does to the count
-abbrev pub role : Phase → Role
-role (Open step) = Other
-role Wait = Other
-role Transfer = Byte
-role Restart = Second
-role Stretched = Other
-role (Refuse cr2) = Other
-role ClearBerr = Other
-role ClearArlo = Other
-role ClearNackf = Other
-role ClearStopf = Other
-role FlushTxis = Other
-role FlushDummy = Other
-role FlushTxe = Other
-role FlushEmpty = Other
-role Listen = Other
-role Code = Other
-role (Ended end) = Nothing
 
 abbrev pub turnsAs : Role → Bool → Bool
 turnsAs Byte t = false

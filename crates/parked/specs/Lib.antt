@@ -1,4 +1,3 @@
 pub mod After
-pub mod Kinds
 pub mod Refusals
 pub mod Wants

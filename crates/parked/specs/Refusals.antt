@@ -1,29 +1,17 @@
 -- Where a call begins, and what is refused there and at a resume.
 use Prim.Native.Nat.{ℕ}
 use mathlib.Core.Bool.{Bool, true, false, cond}
-use lib.Dec.{eqb, ltb, leb}
-use Rattle.parked.specs.declared.Kind.{Kind}
-use Rattle.parked.specs.declared.Phase.{Phase}
-use Rattle.parked.specs.declared.Phase.the-variants.{Ended}
-use Rattle.parked.specs.declared.End.the-variants.{BadLength}
-use Rattle.parked.specs.declared.Role.{Role}
-use Rattle.parked.specs.declared.Role.the-variants.{Byte, Second, Other, Nothing}
+use lib.Dec.{eqb, ltb}
+use Rattle.phases.specs.declared.Kind.{Kind}
+use Rattle.phases.specs.declared.Phase.the-variants.{Ended}
+use Rattle.phases.specs.declared.End.the-variants.{BadLength}
+use Rattle.phases.specs.declared.Role.{Role}
+use Rattle.phases.specs.declared.Role.the-variants.{Byte, Second, Other, Nothing}
 use Rattle.parked.specs.declared.Parked.{Parked}
-use Rattle.parked.specs.Kinds.{sends, receives, opening}
+use Rattle.phases.specs.Kinds.{opening}
 use Rattle.parked.specs.Wants.{span}
-use Rattle.parked.specs.After.{role}
-
--- a length of 1 to 255
-unfoldable pub good : ℕ → Bool
-good n = cond (eqb n 0) false (leb n 255)
-
--- a slice that the call has is good, and one that it does not have is empty
-unfoldable pub fits : Bool → ℕ → Bool
-fits true n = good n
-fits false n = eqb n 0
-
-unfoldable pub lengths : Kind → ℕ → ℕ → Bool
-lengths k n m = cond (fits (sends k) n) (fits (receives k) m) false
+use Rattle.phases.specs.Phases.{role}
+use Rattle.phases.specs.Lengths.{lengths}
 
 -- 'begun': with the lengths of its slices, and no access made yet
 abbrev pub begun : Kind → ℕ → ℕ → ℕ → Parked

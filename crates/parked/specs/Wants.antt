@@ -2,16 +2,16 @@
 use Prim.Native.Nat.{ℕ, _+_, _*_, _%_}
 use mathlib.Core.Bool.{Bool, true, false, cond}
 use lib.Dec.{ltb}
-use Rattle.registers.specs.Layout.{Register, CR2, ISR, ICR, RXDR, TXDR, offset, BERR, ARLO, NACKF, STOPF, ADDR}
-use Rattle.registers.specs.Words.{started, refused, sadd8, flushed, cleared, sent}
-use Rattle.parked.specs.declared.Opening.{Opening}
-use Rattle.parked.specs.declared.Opening.the-variants.{Start, Drain, Modify, Setup, Flush, Release, Probe, Drop}
-use Rattle.parked.specs.declared.Phase.{Phase}
-use Rattle.parked.specs.declared.Phase.the-variants.{Open, Wait, Transfer, Restart, Stretched, Refuse, ClearBerr, ClearArlo, ClearNackf, ClearStopf, FlushTxis, FlushDummy, FlushTxe, FlushEmpty, Listen, Code, Ended}
+use Rattle.layout.specs.Layout.{Register, CR2, ISR, ICR, RXDR, TXDR, offset, BERR, ARLO, NACKF, STOPF, ADDR}
+use Rattle.layout.specs.Words.{started, refused, sadd8, flushed, cleared, sent}
+use Rattle.phases.specs.declared.Opening.{Opening}
+use Rattle.phases.specs.declared.Opening.the-variants.{Start, Drain, Modify, Setup, Flush, Release, Probe, Drop}
+use Rattle.phases.specs.declared.Phase.{Phase}
+use Rattle.phases.specs.declared.Phase.the-variants.{Open, Wait, Transfer, Restart, Stretched, Refuse, ClearBerr, ClearArlo, ClearNackf, ClearStopf, FlushTxis, FlushDummy, FlushTxe, FlushEmpty, Listen, Code, Ended}
 use Rattle.parked.specs.declared.Next.{Next}
 use Rattle.parked.specs.declared.Next.the-variants.{Read, Write, Over}
 use Rattle.parked.specs.declared.Parked.{Parked}
-use Rattle.parked.specs.Kinds.{incoming, setupWord}
+use Rattle.phases.specs.Kinds.{incoming, setupWord}
 
 abbrev pub reads : Register → Next
 reads r = Read (offset r) false

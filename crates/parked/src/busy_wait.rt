@@ -1,18 +1,16 @@
-// `busy_wait`: what each flag leads to, `flush_txdr` at STOPF, and the answers of the final flags.
+// `busy_wait`: what each flag leads to, and the answers of the final flags.
 ghost use mathlib.Core.Path.{_≡_};
-ghost use mathlib.Core.Bool.{cond};
-ghost use Rattle.registers.specs.Layout.{TXIS, TXE, _has_};
 ghost use Rattle.answers.specs.Answers.{said};
-ghost use Rattle.registers.specs.Flags.{foundIn};
+ghost use Rattle.flags.specs.Flags.{foundIn};
 ghost use Rattle.parked.specs.After.{tcWait, wanted, compared, whole, addrAnswer, stopAnswer, answer, found, afterFound};
-use crate::End;
 use crate::Parked;
-use crate::Phase;
 use crate::machine::addressed;
 use answers::Answer;
-use registers::isr::Found;
-use registers::isr::Isr;
-use registers::isr::Wanted;
+use flags::Found;
+use flags::Isr;
+use flags::Wanted;
+use phases::End;
+use phases::Phase;
 
 impl Parked {
     // Whether it is the wait for TC: a `write_read` has sent its bytes.
@@ -133,24 +131,4 @@ impl Parked {
             End::Addressed(isr) => addressed(isr),
         }
     }
-}
-
-// `flush_txdr`: a pending TXIS is answered with dummy data.
-pub fn pending_txis(isr: u32) -> Phase
-    ensures { λ r. ⌜ r ≡ cond (isr has TXIS) Phase.FlushDummy Phase.FlushTxe ⌝ }
-{
-    if Isr::TXIS.is_set(isr) {
-        return Phase::FlushDummy;
-    }
-    Phase::FlushTxe
-}
-
-// `flush_txdr`: TXE is written where it is set.
-pub fn pending_txe(isr: u32) -> Phase
-    ensures { λ r. ⌜ r ≡ cond (isr has TXE) Phase.FlushEmpty Phase.ClearStopf ⌝ }
-{
-    if Isr::TXE.is_set(isr) {
-        return Phase::FlushEmpty;
-    }
-    Phase::ClearStopf
 }

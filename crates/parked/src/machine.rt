@@ -2,26 +2,26 @@
 ghost use mathlib.Core.Path.{_≡_};
 ghost use mathlib.Core.Bool.{cond};
 ghost use Prim.Native.Nat.{ℕ};
-ghost use Rattle.registers.specs.Words.{sadd8};
-ghost use Rattle.registers.specs.Layout.{ADDR, _has_};
-ghost use Rattle.registers.specs.Flags.{addressCode, directionOf};
-ghost use Rattle.parked.specs.Kinds.{setupWord, incoming};
+ghost use Rattle.layout.specs.Words.{sadd8};
+ghost use Rattle.layout.specs.Layout.{ADDR, _has_};
+ghost use Rattle.flags.specs.Flags.{addressCode, directionOf};
+ghost use Rattle.phases.specs.Kinds.{setupWord, incoming};
 ghost use Rattle.parked.specs.Wants.{span, more, wantsByte, wants};
-ghost use Rattle.parked.specs.After.{phaseAt, role, turns, moves, after};
-use crate::End;
-use crate::Kind;
+ghost use Rattle.parked.specs.After.{phaseAt, turns, moves, after};
 use crate::Next;
 use crate::Parked;
-use crate::Phase;
-use crate::Role;
-use crate::busy_wait::pending_txe;
-use crate::busy_wait::pending_txis;
 use answers::Answer;
+use flags::Icr;
+use flags::Isr;
+use phases::End;
+use phases::Kind;
+use phases::Phase;
+use phases::Role;
+use phases::flush::pending_txe;
+use phases::flush::pending_txis;
 use registers::cr2::Cr2;
 use registers::data::Rxdr;
 use registers::data::Txdr;
-use registers::isr::Icr;
-use registers::isr::Isr;
 
 // The next access.
 impl Parked {
@@ -68,7 +68,7 @@ impl Parked {
     {
         let phase = self.phase;
         match phase {
-            Phase::Open(step) => step.wants(self),
+            Phase::Open(step) => self.wants_opening(step),
             Phase::Wait => Next::Read(Isr::READ, false),
             Phase::Transfer => self.wants_byte(byte),
             Phase::Restart => Next::Write(
@@ -109,32 +109,6 @@ pub fn addressed(isr: u32) -> Answer
     Answer::Addressed {
         address: Isr::address_code(isr),
         direction: Isr::direction(isr),
-    }
-}
-
-impl Phase {
-    pub fn role(self) -> Role
-        ensures { λ r. ⌜ r ≡ role self ⌝ }
-    {
-        match self {
-            Phase::Open(_) => Role::Other,
-            Phase::Wait => Role::Other,
-            Phase::Transfer => Role::Byte,
-            Phase::Restart => Role::Second,
-            Phase::Stretched => Role::Other,
-            Phase::Refuse(_) => Role::Other,
-            Phase::ClearBerr => Role::Other,
-            Phase::ClearArlo => Role::Other,
-            Phase::ClearNackf => Role::Other,
-            Phase::ClearStopf => Role::Other,
-            Phase::FlushTxis => Role::Other,
-            Phase::FlushDummy => Role::Other,
-            Phase::FlushTxe => Role::Other,
-            Phase::FlushEmpty => Role::Other,
-            Phase::Listen => Role::Other,
-            Phase::Code => Role::Other,
-            Phase::Ended(_) => Role::Nothing,
-        }
     }
 }
 

@@ -1,40 +1,8 @@
-// What is refused before any access: 6 at the begin, 11 at a run of a parked call.
+// What is refused before any access of a run: 11. The lengths that are refused at the begin are in `phases`.
 ghost use mathlib.Core.Path.{_≡_};
-ghost use Rattle.parked.specs.Refusals.{good, fits, lengths, ended, wrong};
-use crate::Kind;
+ghost use Rattle.parked.specs.Refusals.{ended, wrong};
 use crate::Parked;
-use crate::Role;
-
-// A length of 1 to 255.
-fn good(length: usize) -> bool
-    ensures { λ r. ⌜ r ≡ good length ⌝ }
-{
-    if length == 0 {
-        return false;
-    }
-    length <= 255
-}
-
-// A slice that the call has is of 1 to 255 bytes, one that it does not have is empty.
-fn fits(used: bool, length: usize) -> bool
-    ensures { λ r. ⌜ r ≡ fits used length ⌝ }
-{
-    if used {
-        return good(length);
-    }
-    length == 0
-}
-
-impl Kind {
-    pub fn lengths(self, send: usize, receive: usize) -> bool
-        ensures { λ r. ⌜ r ≡ lengths self send receive ⌝ }
-    {
-        if fits(self.sends(), send) {
-            return fits(self.receives(), receive);
-        }
-        false
-    }
-}
+use phases::Role;
 
 impl Parked {
     // Whether no access follows.

@@ -1,10 +1,10 @@
 // The configuration of a line, and the calls of the configuration.
 use answers::Answer;
-use registers::config::Config;
-use registers::config::Filtered;
-use registers::config::Setting;
-use registers::config::SlaveAddressMask;
-use registers::config::Timing;
+use config::Config;
+use config::Filtered;
+use config::Setting;
+use config::SlaveAddressMask;
+use config::Timing;
 use script::Name;
 use script::slots::*;
 

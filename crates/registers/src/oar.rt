@@ -1,8 +1,8 @@
 // OAR1 and OAR2: the own addresses.
 ghost use mathlib.Core.Path.{_≡_};
-ghost use Rattle.registers.specs.Words.{ownSeven, ownTen, ownSecond};
-ghost use Rattle.registers.specs.Config.{maskNumber};
-use crate::config::SlaveAddressMask;
+ghost use Rattle.layout.specs.Words.{ownSeven, ownTen, ownSecond};
+ghost use Rattle.config.specs.Config.{maskNumber};
+use config::SlaveAddressMask;
 use fields::Field;
 
 pub struct Oar1;

@@ -12,9 +12,9 @@ use access::Report;
 use access::accessed;
 use access::refused;
 use answers::Answer;
+use flags::Icr;
+use flags::Isr;
 use registers::cr2::Cr2;
-use registers::isr::Icr;
-use registers::isr::Isr;
 
 // `slave_write` over a link's fields, lent one by one.
 pub fn slave_write_fields(

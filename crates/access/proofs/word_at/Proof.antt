@@ -1,4 +1,4 @@
--- `registers::access::word_at` meets its contract.
+-- `access::word_at` meets its contract.
 use mathlib.Core.Path.{sym}
 use lib.ListN.{List·getD-eq-default}
 use borrow.Author.Needs.{needs}

@@ -1,4 +1,4 @@
--- `registers::access::write_log` meets its contract: after i turns the first i entries are laid over the log.
+-- `access::write_log` meets its contract: after i turns the first i entries are laid over the log.
 use mathlib.Core.Path.{_≡_, refl, sym}
 use Prim.Native.Nat.{_≤_, _-_}
 use native.Mathlib.Omega.{arith}

@@ -1,6 +1,6 @@
--- `nonblocking::check::check_fields` meets its contract: the flag chooses the step.
+-- `checks::check_fields` meets its contract: the flag chooses the step.
 use mathlib.Core.Path.{_≡_, sym, _∙_}
-use Rattle.registers.specs.declared.isr.Flag.the-variants.{Berr, Arlo, Nackf, Txis, Rxne, Stopf, Tc, Tcr, Addr, Nothing}
+use Rattle.flags.specs.declared.Flag.the-variants.{Berr, Arlo, Nackf, Txis, Rxne, Stopf, Tc, Tcr, Addr, Nothing}
 use Rattle.ending.specs.Link.{linkAt}
 use Rattle.ending.specs.Call.{checkIsrFlags}
 use Rattle.ending.proofs.Outcomes.{outcome-12, check-by, length-255}

@@ -1,4 +1,4 @@
--- `registers::setup::one_address` meets its contract.
+-- `construction::one_address` meets its contract.
 use borrow.Author.Needs.{needs}
 use Rattle.construction.proofs.one_address.Statement.{statement}
 use Rattle.construction.proofs.one_address.Tie as tie

@@ -1,4 +1,4 @@
--- `registers::setup::set_up` meets its contract.
+-- `construction::set_up` meets its contract.
 use mathlib.Core.Path.{_≡_, refl, sym, _∙_}
 use Rattle.construction.specs.SetUp.{setUp}
 use borrow.Author.Needs.{needs}

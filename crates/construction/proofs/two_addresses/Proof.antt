@@ -1,4 +1,4 @@
--- `registers::setup::two_addresses` meets its contract.
+-- `construction::two_addresses` meets its contract.
 use borrow.Author.Needs.{needs}
 use Rattle.construction.proofs.two_addresses.Statement.{statement}
 use Rattle.construction.proofs.two_addresses.Tie as tie

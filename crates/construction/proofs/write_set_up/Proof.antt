@@ -1,4 +1,4 @@
--- `registers::setup::write_set_up` meets its contract: each test chooses the pieces that the definition joins.
+-- `construction::write_set_up` meets its contract: each test chooses the pieces that the definition joins.
 use borrow.Author.Tests.{lt-ltb}
 use borrow.Author.Needs.{needs}
 use Rattle.construction.proofs.write_set_up.Statement.{statement}

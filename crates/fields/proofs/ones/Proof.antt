@@ -1,4 +1,4 @@
--- `registers::field::ones` meets its contract.
+-- `fields::ones` meets its contract.
 use native.Mathlib.Omega.{arith}
 use borrow.Author.Needs.{needs}
 use lib.Pow.{pow-pos}

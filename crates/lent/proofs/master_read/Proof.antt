@@ -1,5 +1,5 @@
--- `lent::master_read` meets its contract: a walk of its MIR, by hand. It lends the link's fields to `parts::read`, and hands the parameters that follow on as they are (`Thin.antt`).
--- All that the proof knows of `parts::read` is that it meets its contract.
+-- `lent::master_read` meets its contract: a walk of its MIR, by hand. It lends the link's fields to `lent_fields::read`, and hands the parameters that follow on as they are (`Thin.antt`).
+-- All that the proof knows of `lent_fields::read` is that it meets its contract.
 use mir.Syntax.{w8, w16}
 use denote.Plain.{uint-vals, uint-tells, uint-lawful}
 use contract.Lifetimes.{Lfts, Shares}
@@ -14,9 +14,9 @@ use Rattle.nonblocking.proofs.Lending.{look, init, stop, hop, fld, from, load, 
 use Rattle.nonblocking.specs.declared.link.Link.{Link}
 use Rattle.lent.proofs.Loans.{Names, lifetimes, shares, references, pointers}
 use Rattle.lent.proofs.Thin.{others, Whole, Told, Runs, at, enters, points, calls-lent, ends, passes, frees, thin-closes}
-use Rattle.lent.proofs.parts.read as callee
-use Rattle.lent.proofs.parts.read.Symbol as symbol
-use Rattle.lent.proofs.parts.read.Met as known
+use Rattle.lent_fields.proofs.read as callee
+use Rattle.lent_fields.proofs.read.Symbol as symbol
+use Rattle.lent_fields.proofs.read.Met as known
 use Rattle.lent.proofs.master_read as f
 use Rattle.lent.proofs.master_read.Key as key
 use Rattle.lent.proofs.master_read.Statement as stated
@@ -65,5 +65,5 @@ pub master-read-spec : {M : Type 1} → stated.statement M
 unfolding code.routine
 master-read-spec 𝓤 H 𝓜 𝓖 𝓡 =
     thin-closes 𝓤 H 𝓜 𝓖 𝓡 ss ks (f.clauses 𝓤 H (𝓖 .A) (𝓜 .mem) (𝓡 .run)) spelt (λ κs. (uint-tells w16, (uint-tells w8, (shr-slice-tells (named 1) (κs .1 .0) u32, (mut-slice-tells (named 2) (κs .1 .1 .0) u32, tt)))))
-    code.env key.name code.function (code.unfolded 𝓤 H 𝓜 𝓡) (Callee 𝓤 H (𝓖 .A) (𝓜 .mem) (𝓡 .run)) symbol.name symbol.routine code.calls-lent·parts·read (known.met 𝓤 H 𝓜 𝓖 𝓡)
+    code.env key.name code.function (code.unfolded 𝓤 H 𝓜 𝓡) (Callee 𝓤 H (𝓖 .A) (𝓜 .mem) (𝓡 .run)) symbol.name symbol.routine code.calls-lent-fields·read (known.met 𝓤 H 𝓜 𝓖 𝓡)
     (λ C Λ fm met κs qs lk x g. walk 𝓤 H (𝓖 .A) (givenOf 𝓤 H 𝓜 𝓖) (𝓜 .mem) (𝓡 .run) C Λ fm met κs qs lk x)

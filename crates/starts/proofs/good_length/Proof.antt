@@ -1,4 +1,4 @@
--- `nonblocking::starts::good_length` meets its contract.
+-- `starts::good_length` meets its contract.
 use lib.ListN.{length}
 use native.Mathlib.Omega.{arith}
 use borrow.Author.Tests.{lt-ltb}

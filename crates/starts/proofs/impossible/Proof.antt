@@ -1,4 +1,4 @@
--- `nonblocking::link::impossible` meets its contract: each test is one of the definition's.
+-- `starts::impossible` meets its contract: each test is one of the definition's.
 use borrow.Author.Tests.{lt-ltb, le-ltb}
 use Rattle.starts.proofs.impossible.Statement.{statement}
 use Rattle.starts.proofs.impossible.Tie as tie

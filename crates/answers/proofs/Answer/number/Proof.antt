@@ -1,4 +1,4 @@
--- `registers::answer::Answer::number` meets its contract: each arm returns its case's number.
+-- `answers::Answer::number` meets its contract: each arm returns its case's number.
 use borrow.Author.Needs.{needs}
 use Rattle.answers.proofs.Answer.number.Statement.{statement}
 use Rattle.answers.proofs.Answer.number.Tie as tie

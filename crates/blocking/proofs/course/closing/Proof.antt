@@ -4,13 +4,13 @@ use mathlib.Core.Path.{_≡_, refl, sym, ap, _∙_}
 use native.Mathlib.Omega.{arith}
 use native.Mathlib.Nat.{lt-of-le-of-lt}
 use lib.ListN.{length}
-use Rattle.registers.specs.Layout.{ISR, RXDR, offset}
-use Rattle.parked.specs.declared.End.the-variants.{Stopf}
-use Rattle.parked.specs.declared.Phase.the-variants.{Wait, Transfer, Ended}
+use Rattle.layout.specs.Layout.{ISR, RXDR, offset}
+use Rattle.phases.specs.declared.End.the-variants.{Stopf}
+use Rattle.phases.specs.declared.Phase.the-variants.{Wait, Transfer, Ended}
 use Rattle.parked.specs.Wants.{more}
 use Rattle.parked.proofs.Phases.{atPhase}
 use Rattle.blocking.proofs.Stretches.{finished-on}
-use Rattle.blocking.proofs.Phased.{next-wait, next-in}
+use Rattle.runs.proofs.Phased.{next-wait, next-in}
 use Rattle.blocking.proofs.Finishes.{no-word, no-access, finished-same}
 use borrow.Author.Needs.{needs}
 use Rattle.blocking.proofs.course.closing.Statement.{statement}

@@ -4,7 +4,7 @@ use mathlib.Core.Path.{_≡_, sym, _∙_}
 use native.Mathlib.Nat.{lt-trans}
 use native.Mathlib.Omega.{arith}
 use lib.ListN.{length, getD, length-set}
-use Rattle.parked.specs.declared.Phase.the-variants.{Wait}
+use Rattle.phases.specs.declared.Phase.the-variants.{Wait}
 use Rattle.parked.proofs.Phases.{atPhase}
 use Rattle.blocking.proofs.Blocks.{stop, stop-found, wanted-outside}
 use Rattle.blocking.proofs.Finishes.{reached, unmoved}

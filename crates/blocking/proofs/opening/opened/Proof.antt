@@ -1,7 +1,7 @@
 -- `blocking::opening::opened` meets its contract.
 use Prim.Native.Nat.{zero-le}
 use mathlib.Core.Path.{ap}
-use Rattle.parked.specs.declared.Phase.{Phase}
+use Rattle.phases.specs.declared.Phase.{Phase}
 use Rattle.parked.proofs.Phases.{atPhase}
 use Rattle.blocking.proofs.Stretches.{carried-none}
 use Rattle.blocking.proofs.Finishes.{opens, shut}

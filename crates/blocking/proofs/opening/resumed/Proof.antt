@@ -3,7 +3,7 @@ use Prim.Native.Nat.{_+_, _<_, _≤_, zero-le}
 use mathlib.Core.Path.{_≡_, refl, sym, ap, _∙_}
 use native.Mathlib.Omega.{arith}
 use lib.ListN.{length}
-use Rattle.parked.specs.declared.Phase.{Phase}
+use Rattle.phases.specs.declared.Phase.{Phase}
 use Rattle.parked.proofs.Phases.{atPhase}
 use Rattle.blocking.proofs.Moves.{comes}
 use Rattle.blocking.proofs.Finishes.{opens, shut}

@@ -3,8 +3,8 @@ use mathlib.Core.Path.{_≡_, sym, _∙_}
 use mathlib.Core.Path.{refl}
 use lib.ListN.{length}
 use Prim.Native.Nat.{_/_}
-use Rattle.blocking.proofs.Stretches.{outcome-wrong, outcome-right}
-use Rattle.blocking.proofs.Sound.{sound-of}
+use Rattle.runs.proofs.OneAccess.{outcome-wrong, outcome-right}
+use Rattle.runs.proofs.Sound.{sound-of}
 use borrow.Author.Needs.{needs}
 use Rattle.blocking.proofs.run.run.Statement.{statement}
 use Rattle.blocking.proofs.run.run.Tie as tie

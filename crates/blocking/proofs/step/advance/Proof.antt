@@ -1,13 +1,14 @@
--- `blocking::run::advance` meets its contract: the access that the code makes is the one that the definition wants.
+-- `blocking::step::advance` meets its contract: the access that the code makes is the one that the definition wants.
 use mathlib.Core.Path.{_≡_, refl, sym, ap, _∙_}
 use mathlib.Core.List.{List}
 use Prim.Native.Nat.{ℕ, suc, zero-le, _/_, _≤_}
 use native.Mathlib.Omega.{arith}
 use lib.ListN.{length, getD, drop}
-use Rattle.parked.specs.declared.End.the-variants.{OutOfWords, LogFull}
+use Rattle.phases.specs.declared.End.the-variants.{OutOfWords, LogFull}
 use Rattle.parked.specs.Wants.{wants}
-use Rattle.blocking.specs.Run.{next}
-use Rattle.blocking.proofs.Stretches.{turned-over, turned-step, run-over, run-out, run-read, run-write, full-read, full-write, room-none}
+use Rattle.runs.specs.Run.{next}
+use Rattle.blocking.proofs.Stretches.{turned-over, turned-step, room-none}
+use Rattle.runs.proofs.OneAccess.{run-over, run-out, run-read, run-write, full-read, full-write}
 use borrow.Author.Needs.{needs}
 use Rattle.blocking.proofs.step.advance.Statement.{statement}
 use Rattle.blocking.proofs.step.advance.Tie as tie

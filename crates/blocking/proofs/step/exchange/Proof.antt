@@ -1,4 +1,4 @@
--- `blocking::run::exchange` meets its contract.
+-- `blocking::step::exchange` meets its contract.
 use mathlib.Core.Path.{_≡_, sym, _∙_}
 use borrow.Author.Needs.{needs}
 use Rattle.blocking.proofs.step.exchange.Statement.{statement}

@@ -1,12 +1,13 @@
--- `blocking::run::receive_byte` meets its contract.
+-- `blocking::step::receive_byte` meets its contract.
 use mathlib.Core.Path.{refl}
 use Prim.Native.Nat.{_/_, _≤_}
 use native.Mathlib.Omega.{arith}
 use lib.ListN.{length, getD}
-use Rattle.parked.specs.declared.End.the-variants.{OutOfWords, LogFull}
+use Rattle.phases.specs.declared.End.the-variants.{OutOfWords, LogFull}
 use Rattle.blocking.specs.declared.Turn.the-variants.{Again}
-use Rattle.blocking.proofs.Phased.{next-in, span-in, more-in}
-use Rattle.blocking.proofs.Stretches.{turned-over, turned-step, run-out, run-read, full-read, room-none}
+use Rattle.runs.proofs.Phased.{next-in, span-in, more-in}
+use Rattle.blocking.proofs.Stretches.{turned-over, turned-step, room-none}
+use Rattle.runs.proofs.OneAccess.{run-out, run-read, full-read}
 use borrow.Author.Needs.{needs}
 use Rattle.blocking.proofs.step.receive_byte.Statement.{statement}
 use Rattle.blocking.proofs.step.receive_byte.Tie as tie

@@ -1,11 +1,12 @@
--- `blocking::run::send_byte` meets its contract.
+-- `blocking::step::send_byte` meets its contract.
 use mathlib.Core.Path.{refl}
 use Prim.Native.Nat.{zero-le}
 use lib.ListN.{length}
-use Rattle.parked.specs.declared.End.the-variants.{LogFull}
+use Rattle.phases.specs.declared.End.the-variants.{LogFull}
 use Rattle.blocking.specs.declared.Turn.the-variants.{Again}
-use Rattle.blocking.proofs.Phased.{next-out, span-out}
-use Rattle.blocking.proofs.Stretches.{turned-over, turned-step, run-write, full-write, room-none}
+use Rattle.runs.proofs.Phased.{next-out, span-out}
+use Rattle.blocking.proofs.Stretches.{turned-over, turned-step, room-none}
+use Rattle.runs.proofs.OneAccess.{run-write, full-write}
 use borrow.Author.Needs.{needs}
 use Rattle.blocking.proofs.step.send_byte.Statement.{statement}
 use Rattle.blocking.proofs.step.send_byte.Tie as tie

@@ -1,10 +1,11 @@
--- `blocking::run::wait` meets its contract.
+-- `blocking::step::wait` meets its contract.
 use Prim.Native.Nat.{_/_, _≤_}
 use native.Mathlib.Omega.{arith}
 use lib.ListN.{length}
-use Rattle.parked.specs.declared.End.the-variants.{OutOfWords, LogFull}
-use Rattle.blocking.proofs.Phased.{next-wait}
-use Rattle.blocking.proofs.Stretches.{turned-over, turned-step, run-out, run-read, full-read, room-none}
+use Rattle.phases.specs.declared.End.the-variants.{OutOfWords, LogFull}
+use Rattle.runs.proofs.Phased.{next-wait}
+use Rattle.blocking.proofs.Stretches.{turned-over, turned-step, room-none}
+use Rattle.runs.proofs.OneAccess.{run-out, run-read, full-read}
 use borrow.Author.Needs.{needs}
 use Rattle.blocking.proofs.step.wait.Statement.{statement}
 use Rattle.blocking.proofs.step.wait.Tie as tie

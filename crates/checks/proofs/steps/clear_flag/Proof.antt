@@ -1,4 +1,4 @@
--- `nonblocking::steps::clear_flag` meets its contract.
+-- `checks::steps::clear_flag` meets its contract.
 use borrow.Author.Needs.{needs}
 use Rattle.checks.proofs.steps.clear_flag.Statement.{statement}
 use Rattle.checks.proofs.steps.clear_flag.Tie as tie

@@ -1,4 +1,4 @@
--- `nonblocking::steps::look` meets its contract.
+-- `checks::steps::look` meets its contract.
 use borrow.Author.Needs.{needs}
 use Rattle.checks.proofs.steps.look.Statement.{statement}
 use Rattle.checks.proofs.steps.look.Tie as tie

@@ -1,7 +1,7 @@
--- `nonblocking::steps::on_addr` meets its contract.
+-- `checks::steps::on_addr` meets its contract.
 use mathlib.Core.Path.{_≡_, refl, sym, _∙_}
 use native.Mathlib.Omega.{arith}
-use Rattle.registers.specs.Layout.{ISR}
+use Rattle.layout.specs.Layout.{ISR}
 use Rattle.access.specs.Access.{read}
 use mathlib.Core.Bool.{true, false}
 use lib.ListN.{getD}

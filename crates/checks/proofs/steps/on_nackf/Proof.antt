@@ -1,6 +1,6 @@
--- `nonblocking::steps::on_nackf` meets its contract.
+-- `checks::steps::on_nackf` meets its contract.
 use mathlib.Core.Path.{refl}
-use Rattle.registers.specs.declared.isr.Flag.the-variants.{Nackf}
+use Rattle.flags.specs.declared.Flag.the-variants.{Nackf}
 use Rattle.ending.specs.Arms.{flagPlan}
 use Rattle.ending.proofs.Settling.{same}
 use borrow.Author.Needs.{needs}

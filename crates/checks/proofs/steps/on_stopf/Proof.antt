@@ -1,8 +1,8 @@
--- `nonblocking::steps::on_stopf` meets its contract.
+-- `checks::steps::on_stopf` meets its contract.
 use mathlib.Core.Path.{refl}
 use native.Mathlib.Omega.{arith}
 use borrow.Author.Tests.{eq-eqb, ne-eqb}
-use Rattle.registers.specs.Layout.{ISR}
+use Rattle.layout.specs.Layout.{ISR}
 use Rattle.access.specs.Access.{read}
 use mathlib.Core.Bool.{true, false}
 use lib.ListN.{getD}

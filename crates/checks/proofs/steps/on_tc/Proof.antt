@@ -2,8 +2,8 @@
 use mathlib.Core.Path.{refl}
 use native.Mathlib.Omega.{arith}
 use borrow.Author.Tests.{eq-eqb, ne-eqb}
-use Rattle.registers.specs.Layout.{ISR}
-use Rattle.registers.specs.Words.{started, sadd16}
+use Rattle.layout.specs.Layout.{ISR}
+use Rattle.layout.specs.Words.{started, sadd16}
 use Rattle.access.specs.Access.{read}
 use mathlib.Core.Bool.{true, false}
 use lib.ListN.{getD}

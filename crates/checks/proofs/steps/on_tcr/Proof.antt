@@ -1,6 +1,6 @@
--- `nonblocking::steps::on_tcr` meets its contract.
+-- `checks::steps::on_tcr` meets its contract.
 use mathlib.Core.Path.{refl}
-use Rattle.registers.specs.declared.isr.Flag.the-variants.{Tcr}
+use Rattle.flags.specs.declared.Flag.the-variants.{Tcr}
 use Rattle.ending.specs.Arms.{flagPlan}
 use Rattle.ending.proofs.Settling.{same}
 use borrow.Author.Needs.{needs}

@@ -1,8 +1,8 @@
--- `nonblocking::steps::on_txis` meets its contract.
+-- `checks::steps::on_txis` meets its contract.
 use mathlib.Core.Path.{refl}
 use native.Mathlib.Omega.{arith}
 use borrow.Author.Tests.{lt-ltb, le-ltb}
-use Rattle.registers.specs.Layout.{ISR}
+use Rattle.layout.specs.Layout.{ISR}
 use Rattle.access.specs.Access.{read}
 use mathlib.Core.Bool.{true, false}
 use lib.ListN.{getD}

@@ -1,4 +1,4 @@
--- `nonblocking::steps::one_more` meets its contract.
+-- `checks::steps::one_more` meets its contract.
 use borrow.Author.Tests.{lt-ltb, le-ltb}
 use Rattle.ending.specs.Link.{oneMore}
 use borrow.Author.Needs.{needs}

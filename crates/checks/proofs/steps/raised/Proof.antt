@@ -1,4 +1,4 @@
--- `nonblocking::steps::raised` meets its contract.
+-- `checks::steps::raised` meets its contract.
 use borrow.Author.Tests.{lt-ltb, le-ltb}
 use borrow.Author.Needs.{needs}
 use Rattle.checks.proofs.steps.raised.Statement.{statement}

@@ -1,4 +1,4 @@
--- `registers::field::Field::clear` meets its contract, by `clear-code`.
+-- `fields::Field::clear` meets its contract, by `clear-code`.
 use mathlib.Core.Path.{_≡_, sym}
 use Prim.Native.Nat.{_-_, _^_, min}
 use borrow.Author.Needs.{needs}

@@ -1,4 +1,4 @@
--- `registers::field::Field::get` meets its contract, by `get-code`.
+-- `fields::Field::get` meets its contract, by `get-code`.
 use mathlib.Core.Path.{_≡_, refl, sym}
 use lib.Pow.{pow-pos}
 use Prim.Native.Nat.{_-_, _^_, min}

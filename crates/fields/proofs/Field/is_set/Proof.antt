@@ -1,4 +1,4 @@
--- `registers::field::Field::is_set` meets its contract.
+-- `fields::Field::is_set` meets its contract.
 use Rattle.fields.specs.Field.{isSet}
 use Rattle.fields.proofs.Field.is_set.Statement.{statement}
 use Rattle.fields.proofs.Field.is_set.Tie as tie

@@ -1,4 +1,4 @@
--- `registers::field::Field::put` meets its contract, by `put-code`.
+-- `fields::Field::put` meets its contract, by `put-code`.
 use mathlib.Core.Path.{_≡_, sym}
 use Prim.Native.Nat.{_-_, _^_, min}
 use borrow.Author.Needs.{needs}

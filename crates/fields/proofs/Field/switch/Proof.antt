@@ -1,4 +1,4 @@
--- `registers::field::Field::switch` meets its contract.
+-- `fields::Field::switch` meets its contract.
 use Rattle.fields.proofs.Field.switch.Statement.{statement}
 use Rattle.fields.proofs.Field.switch.Tie as tie
 

@@ -1,4 +1,4 @@
--- `blocking::Parked::addr_answer` meets its contract.
+-- `parked::Parked::addr_answer` meets its contract.
 use mathlib.Core.Path.{_≡_, sym, _∙_}
 use Rattle.parked.specs.After.{addrAnswer}
 use Rattle.parked.proofs.Parked.addr_answer.Statement.{statement}

@@ -1,4 +1,4 @@
--- `blocking::Parked::after` meets its contract.
+-- `parked::Parked::after` meets its contract.
 use mathlib.Core.Path.{_≡_, sym, _∙_}
 use Rattle.parked.specs.After.{after}
 use native.Mathlib.Omega.{arith}

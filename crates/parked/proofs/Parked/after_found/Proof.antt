@@ -1,4 +1,4 @@
--- `blocking::Parked::after_found` meets its contract.
+-- `parked::Parked::after_found` meets its contract.
 use borrow.Author.Needs.{needs}
 use Rattle.parked.proofs.Parked.after_found.Statement.{statement}
 use Rattle.parked.proofs.Parked.after_found.Tie as tie

@@ -1,4 +1,4 @@
--- `blocking::Parked::answer` meets its contract.
+-- `parked::Parked::answer` meets its contract.
 use borrow.Author.Needs.{needs}
 use Rattle.parked.proofs.Parked.answer.Statement.{statement}
 use Rattle.parked.proofs.Parked.answer.Tie as tie

@@ -1,4 +1,4 @@
--- `blocking::Parked::busy_wait` meets its contract.
+-- `parked::Parked::busy_wait` meets its contract.
 use Rattle.parked.proofs.Parked.busy_wait.Statement.{statement}
 use Rattle.parked.proofs.Parked.busy_wait.Tie as tie
 

@@ -1,4 +1,4 @@
--- `blocking::Parked::compared` meets its contract.
+-- `parked::Parked::compared` meets its contract.
 use mathlib.Core.Path.{_≡_, sym, _∙_}
 use Rattle.parked.specs.After.{compared}
 use Rattle.parked.proofs.Parked.compared.Statement.{statement}

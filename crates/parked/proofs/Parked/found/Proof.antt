@@ -1,9 +1,9 @@
 -- `parked::Parked::found` meets its contract.
 use mathlib.Core.Path.{_≡_, refl, sym, _∙_}
 use mathlib.Core.Bool.{Bool, true, false, cond}
-use Rattle.parked.specs.declared.Phase.{Phase}
-use Rattle.parked.specs.declared.Phase.the-variants.{Transfer}
-use Rattle.parked.specs.Kinds.{pads}
+use Rattle.phases.specs.declared.Phase.{Phase}
+use Rattle.phases.specs.declared.Phase.the-variants.{Transfer}
+use Rattle.phases.specs.Kinds.{pads}
 use Rattle.parked.specs.After.{found, tcWait}
 use Rattle.parked.proofs.Parked.found.Statement.{statement}
 use Rattle.parked.proofs.Parked.found.Tie as tie

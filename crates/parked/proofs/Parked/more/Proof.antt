@@ -1,4 +1,4 @@
--- `blocking::Parked::more` meets its contract.
+-- `parked::Parked::more` meets its contract.
 use Rattle.parked.specs.Wants.{more}
 use Rattle.parked.proofs.Parked.more.Statement.{statement}
 use Rattle.parked.proofs.Parked.more.Tie as tie

@@ -1,4 +1,4 @@
--- `blocking::Parked::moves` meets its contract.
+-- `parked::Parked::moves` meets its contract.
 use mathlib.Core.Path.{_≡_, sym, _∙_}
 use Rattle.parked.specs.After.{moves}
 use borrow.Author.Needs.{needs}

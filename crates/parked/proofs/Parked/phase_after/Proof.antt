@@ -1,4 +1,4 @@
--- `blocking::Parked::phase_after` meets its contract.
+-- `parked::Parked::phase_after` meets its contract.
 use mathlib.Core.Path.{_≡_, sym, _∙_}
 use Rattle.parked.proofs.Phases.{phase-at}
 use borrow.Author.Needs.{needs}

@@ -1,4 +1,4 @@
--- `blocking::Parked::setup_word` meets its contract.
+-- `parked::Parked::setup_word` meets its contract.
 use Rattle.parked.proofs.Parked.setup_word.Statement.{statement}
 use Rattle.parked.proofs.Parked.setup_word.Tie as tie
 

@@ -1,4 +1,4 @@
--- `blocking::Parked::span` meets its contract.
+-- `parked::Parked::span` meets its contract.
 use mathlib.Core.Path.{_≡_, sym, _∙_}
 use Rattle.parked.specs.Wants.{span}
 use Rattle.parked.proofs.Parked.span.Statement.{statement}

@@ -1,4 +1,4 @@
--- `blocking::Parked::stop_answer` meets its contract.
+-- `parked::Parked::stop_answer` meets its contract.
 use mathlib.Core.Path.{_≡_, sym, _∙_}
 use borrow.Author.Tests.{eq-eqb, ne-eqb}
 use Rattle.parked.specs.After.{stopAnswer}

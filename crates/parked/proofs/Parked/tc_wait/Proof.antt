@@ -1,4 +1,4 @@
--- `blocking::Parked::tc_wait` meets its contract.
+-- `parked::Parked::tc_wait` meets its contract.
 use mathlib.Core.Path.{_≡_, sym, _∙_}
 use Rattle.parked.specs.After.{tcWait}
 use Rattle.parked.proofs.Parked.tc_wait.Statement.{statement}

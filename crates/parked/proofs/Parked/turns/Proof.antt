@@ -1,4 +1,4 @@
--- `blocking::Parked::turns` meets its contract.
+-- `parked::Parked::turns` meets its contract.
 use mathlib.Core.Path.{_≡_, sym, _∙_}
 use Rattle.parked.specs.After.{turns}
 use borrow.Author.Needs.{needs}

@@ -1,4 +1,4 @@
--- `blocking::Parked::wanted` meets its contract.
+-- `parked::Parked::wanted` meets its contract.
 use mathlib.Core.Path.{_≡_, sym, _∙_}
 use Rattle.parked.specs.After.{wanted}
 use Rattle.parked.proofs.Parked.wanted.Statement.{statement}

@@ -1,4 +1,4 @@
--- `blocking::Parked::wants` meets its contract.
+-- `parked::Parked::wants` meets its contract.
 use mathlib.Core.Path.{_≡_, sym, _∙_}
 use Rattle.parked.proofs.Phases.{wants-at}
 use borrow.Author.Needs.{needs}
@@ -6,7 +6,7 @@ use Rattle.parked.proofs.Parked.wants.Statement.{statement}
 use Rattle.parked.proofs.Parked.wants.Tie as tie
 
 returns : tie.Need-returns
-returns c = c .wants .ensures ∙ sym (wants-at (c .before .before .before .before .args .self) (c .before .before .before .before .args .byte) _ (c .before .before .phase .given .1))
+returns c = c .wants-opening .ensures ∙ sym (wants-at (c .before .before .before .before .args .self) (c .before .before .before .before .args .byte) _ (c .before .before .phase .given .1))
 
 returns-2 : tie.Need-returns-2
 returns-2 c = sym (wants-at (c .before .before .args .self) (c .before .before .args .byte) _ (c .enum-told .given .1))

@@ -1,4 +1,4 @@
--- `blocking::Parked::wants_byte` meets its contract.
+-- `parked::Parked::wants_byte` meets its contract.
 use mathlib.Core.Path.{_≡_, sym, _∙_}
 use Rattle.parked.proofs.Parked.wants_byte.Statement.{statement}
 use Rattle.parked.proofs.Parked.wants_byte.Tie as tie

@@ -1,4 +1,4 @@
--- `blocking::Parked::whole` meets its contract.
+-- `parked::Parked::whole` meets its contract.
 use Rattle.parked.specs.After.{whole}
 use Rattle.parked.proofs.Parked.whole.Statement.{statement}
 use Rattle.parked.proofs.Parked.whole.Tie as tie

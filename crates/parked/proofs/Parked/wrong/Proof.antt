@@ -1,4 +1,4 @@
--- `blocking::Parked::wrong` meets its contract.
+-- `parked::Parked::wrong` meets its contract.
 use mathlib.Core.Path.{_≡_, sym, _∙_}
 use borrow.Author.Tests.{eq-eqb, ne-eqb}
 use Rattle.parked.specs.Refusals.{wrong}

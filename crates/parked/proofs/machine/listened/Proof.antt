@@ -1,4 +1,4 @@
--- `blocking::machine::listened` meets its contract.
+-- `parked::machine::listened` meets its contract.
 use mathlib.Core.Path.{_≡_, sym, _∙_}
 use Rattle.parked.proofs.machine.listened.Statement.{statement}
 use Rattle.parked.proofs.machine.listened.Tie as tie

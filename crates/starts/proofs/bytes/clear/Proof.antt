@@ -1,4 +1,4 @@
--- `nonblocking::bytes::clear` meets its contract: after i turns i zeros are laid over the buffer.
+-- `starts::bytes::clear` meets its contract: after i turns i zeros are laid over the buffer.
 use mathlib.Core.Path.{_≡_, refl, sym}
 use Prim.Native.Nat.{ℕ, _≤_, _-_}
 use native.Mathlib.Omega.{arith}

@@ -1,4 +1,4 @@
--- `nonblocking::bytes::copy_in` meets its contract: the bytes are laid over the second array, and then over the buffer.
+-- `starts::bytes::copy_in` meets its contract: the bytes are laid over the second array, and then over the buffer.
 use mathlib.Core.Path.{_≡_, refl, sym, _∙_, ap}
 use Prim.Native.Nat.{ℕ, _≤_, _-_}
 use native.Mathlib.Omega.{arith}

@@ -1,7 +1,0 @@
--- `flat::kept::kept_call` meets its contract: what it promises is a law.
-use Rattle.flat.proofs.Back.{kept-call}
-use Rattle.flat.proofs.kept.kept_call.Statement.{statement}
-use Rattle.flat.proofs.kept.kept_call.Tie as tie
-
-pub kept-call-spec : {M : Type 1} → statement M
-kept-call-spec = tie.close (tie.spec (λ c. kept-call))

@@ -1,0 +1,14 @@
+-- `kept::take_up` meets its contract: the kind and the phase are those that its callees return.
+use borrow.Author.Needs.{needs}
+use Rattle.kept.proofs.take_up.Statement.{statement}
+use Rattle.kept.proofs.take_up.Tie as tie
+
+pub take-up-spec : {M : Type 1} → statement M
+take-up-spec =
+    tie.close
+    (tie.spec
+    (λ c κs. search needs)
+    (λ c. search needs)
+    (λ c. search needs)
+    (λ c κs. search needs)
+    (λ c. rw (c .before .kind-of .ensures, c .phase-of .ensures)))

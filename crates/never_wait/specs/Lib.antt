@@ -1,0 +1,2 @@
+pub mod Construct
+pub mod NeverWait

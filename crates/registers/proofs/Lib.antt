@@ -1,2 +1,0 @@
-pub mod FlagOrder
-pub mod Places

@@ -1,4 +1,0 @@
-pub mod Config
-pub mod Flags
-pub mod Layout
-pub mod Words

@@ -1,0 +1,53 @@
+-- What a contract promises where it cites `Whole`, and what the two laws say, once more and in document 01's words. Only contracts cite these
+-- definitions, so a weaker one would be proved as well.
+use Prim.Native.Nat.{ℕ, _+_}
+use mathlib.Core.Path.{_≡_, refl, subst}
+use mathlib.Core.Bool.{Bool, false}
+use mathlib.Core.List.{List, [], _∷_, _++_}
+use lib.ListN.{length, drop}
+use lib.Seq.{sets}
+use Rattle.answers.specs.Answers.{said, says}
+use Rattle.access.specs.Access.{over}
+use Rattle.parked.specs.declared.Parked.{Parked}
+use Rattle.parked.specs.Refusals.{ended}
+use Rattle.runs.specs.declared.Ran.{Ran}
+use Rattle.runs.specs.Run.{Outcome, joined, outcome, Whole}
+use Rattle.runs.specs.CutLaw.{Cut, accesses, unlessEnded, cutRuns, allWords, CutLaw}
+use Rattle.runs.specs.BufferLaw.{heard, place, BufferLaw}
+
+-- the answer, the parked call, the words taken and the places logged are the outcome's; so are the log from its first place on, and the buffer
+promised : (q : Outcome) (log : List ℕ) (r : Ran) (log′ b′ : List ℕ) → Whole q log r log′ b′ →
+    (said (r .answer) ≡ q .answer)
+    × (r .parked ≡ q .parked)
+    × (r .taken ≡ q .taken)
+    × (r .logged ≡ length (q .numbers))
+    × (log′ ≡ over (q .numbers) log)
+    × (b′ ≡ q .buffer)
+promised q log r log′ b′ w = (w .answer, w .parked, w .taken, w .logged, w .entries, w .buffer)
+
+-- A call runs over some words and has not ended; it continues with the rest of them, from the first one not taken, and with new ones. Both runs
+-- joined are one uncut run, with room for their accesses and for any number more, unless the second run's log was full.
+module _ (s : List ℕ) (p : Parked) (b ws vs : List ℕ) (n k m : ℕ) where
+  abbrev before : Outcome
+  before = outcome s n p b ws
+
+  abbrev later : Outcome
+  later = outcome s k (before .parked) (before .buffer) (drop (before .taken) ws ++ vs)
+
+  cut-once : CutLaw → ended (before .parked) ≡ false → (later .answer ≡ says 10 [] → m ≡ 0) →
+      joined (before .taken) (before .numbers) later ≡ outcome s (accesses (before .numbers ++ later .numbers) + m) p b (ws ++ vs)
+  unfolding cutRuns allWords
+  cut-once L e h =
+      subst (λ (t : Bool). (unlessEnded t before later .answer ≡ says 10 [] → m ≡ 0) → unlessEnded t before later ≡ outcome s (accesses (unlessEnded t before later .numbers) + m) p b (ws ++ vs)) e
+      (L .joins s p b (record { words = ws; room = n }) (record { words = vs; room = k } ∷ []) m) h
+
+-- an access has two numbers in the log
+two-numbers : (a v b w : ℕ) → (accesses (a ∷ v ∷ b ∷ w ∷ []) ≡ 2) × (accesses (a ∷ []) ≡ 0)
+two-numbers a v b w = (refl, refl)
+
+-- a run changes no place of the buffer but those of the bytes that came in, one after the other; the count says the next place
+bytes-kept : BufferLaw → (s : List ℕ) (n : ℕ) (p : Parked) (b ws : List ℕ) →
+    (outcome s n p b ws .buffer ≡ sets b (place p) (heard s n p b ws))
+    × (place (outcome s n p b ws .parked) ≡ place p + length (heard s n p b ws))
+    × ((x : ℕ) → outcome s n p b ws .answer ≡ says 5 (x ∷ []) → x ≡ outcome s n p b ws .parked .count)
+bytes-kept L s n p b ws = (L .filled s n p b ws, L .counted s n p b ws, L .told s n p b ws)

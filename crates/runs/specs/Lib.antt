@@ -1,0 +1,3 @@
+pub mod BufferLaw
+pub mod CutLaw
+pub mod Run
