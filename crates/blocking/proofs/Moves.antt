@@ -6,14 +6,17 @@ use mathlib.Core.List.{List}
 use native.Mathlib.Omega.{arith}
 use borrow.Author.Tests.{lt-ltb}
 use lib.ListN.{length, getD, set}
+use Rattle.flags.specs.declared.Wanted.{Wanted}
 use Rattle.flags.specs.declared.Wanted.the-variants.{Txis, Rxne}
+use Rattle.flags.specs.declared.Found.the-variants.{Nothing}
+use Rattle.flags.specs.Flags.{foundIn}
 use Rattle.layout.specs.Layout.{ISR, RXDR, TXDR, TXIS, RXNE, offset, _has_}
 use Rattle.layout.specs.Words.{received, sent}
 use Rattle.phases.specs.declared.Phase.the-variants.{Wait, Transfer}
 use Rattle.parked.specs.declared.Parked.{Parked}
 use Rattle.phases.specs.Kinds.{incoming}
 use Rattle.parked.specs.Wants.{more}
-use Rattle.parked.specs.After.{after}
+use Rattle.parked.specs.After.{after, wanted}
 use Rattle.parked.proofs.Phases.{atPhase, after-wait, after-byte}
 use Rattle.blocking.specs.declared.Moved.{Moved}
 use Rattle.blocking.specs.declared.Progress.{Progress}
@@ -25,6 +28,21 @@ use Rattle.blocking.proofs.Accesses.{on, reads, writes}
 
 abbrev pub moved : ℕ → ℕ → ℕ → Moved
 moved n t g = record { count = n; taken = t; logged = g }
+
+-- no flag: the wait goes on
+pub idles : (s ws log b : List ℕ) (p : Parked) (n t g : ℕ) (f : Wanted) → wanted (atPhase p Wait n) ≡ f → t < length ws → g + 2 ≤ length log → foundIn (getD ws t 0) f ≡ Nothing
+    → Carried s ws log b (waiting p (moved n t g)) (set (set log g (offset ISR)) (g + 1) (getD ws t 0)) b (waiting p (moved n (t + 1) (g + 2)))
+idles s ws log b p n t g f wf ht hg h =
+    let w : ℕ = getD ws t 0 in
+    let e : after (atPhase p Wait n) w ≡ atPhase p Wait n = after-wait (atPhase p Wait n) w refl ∙ rw (wf, h) in
+    subst (λ (q : Parked). Carried s ws log b (on (atPhase p Wait n) t g) (set (set log g (offset ISR)) (g + 1) w) b (on q (t + 1) (g + 2))) e
+    (reads s ws log b (atPhase p Wait n) t g (g + 1) (g + 2) (t + 1) hg refl refl (offset ISR) false (next-wait s (atPhase p Wait n) refl) ht refl)
+
+pub idles-out : (s ws log b : List ℕ) (p : Parked) (n t g : ℕ) → incoming (p .kind) ≡ false → p .send ≡ length s → n < length s → t < length ws → g + 2 ≤ length log → foundIn (getD ws t 0) Txis ≡ Nothing
+    → Carried s ws log b (waiting p (moved n t g)) (set (set log g (offset ISR)) (g + 1) (getD ws t 0)) b (waiting p (moved n (t + 1) (g + 2)))
+idles-out s ws log b p n t g i l hn ht hg h =
+    let left : more (atPhase p Wait n) ≡ true = sym (more-out (atPhase p Wait n) i) ∙ lt-ltb n (p .send) (omega arith) in
+    idles s ws log b p n t g Txis (wanted-out (atPhase p Wait n) i left) ht hg h
 
 -- a byte goes out
 pub send-one : (s ws log b : List ℕ) (p : Parked) (n t g : ℕ) → incoming (p .kind) ≡ false → p .send ≡ length s → n < length s → t < length ws → g + 4 ≤ length log → getD ws t 0 has TXIS ≡ true

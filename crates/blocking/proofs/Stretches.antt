@@ -12,7 +12,7 @@ use borrow.Rule.Slice.PartMut.{putMid, post-is}
 use Rattle.answers.specs.Answers.{says}
 use Rattle.access.specs.Access.{over}
 use Rattle.phases.specs.declared.End.{End}
-use Rattle.phases.specs.declared.Phase.the-variants.{Transfer, Ended}
+use Rattle.phases.specs.declared.Phase.the-variants.{Ended}
 use Rattle.parked.specs.declared.Parked.{Parked}
 use Rattle.phases.specs.declared.Kind.{Kind}
 use Rattle.runs.specs.declared.Ran.{Ran}
@@ -137,9 +137,6 @@ module _ {s ws log b : List ℕ} {p r : Progress} {log′ b′ : List ℕ} (f : 
 
   pub more-found : r .turn ≡ Found → r .logged ≡ p .logged + 2
   more-found e = told Found e .0
-
-  pub byte-next : r .turn ≡ Found → r .parked .phase ≡ Transfer
-  byte-next e = told Found e .1
 
   pub no-more : (a : End) → r .turn ≡ Over a → runs s ((length log - r .logged) / 2) (r .parked) b′ (drop (r .taken) ws) ≡ stopped (answer a (r .parked)) (r .parked) b′
   no-more a e = told (Over a) e

@@ -8,7 +8,6 @@ use crate::Progress;
 use crate::Turn;
 use crate::course::course;
 use crate::step::advance;
-use crate::step::exchange;
 use answers::Answer;
 use parked::End;
 use parked::Kind;
@@ -17,7 +16,6 @@ use parked::Phase;
 use runs::Ran;
 
 // One access of a run, over the words from the first one not taken and the log from its first free place.
-// It and `forward_byte` are called in one place each, so that they are inlined there and no parked call is copied.
 fn forward(p: Progress, send: &[u8], receive: &mut [u8], words: &[u32], log: &mut [u32]) -> Progress
     requires { ⌜ (p .taken ≤ length (now words)) × (p .logged ≤ length (now log)) ⌝ }
     ensures { λ r. ⌜ Forward (now (send .entry)) (now (words .entry)) (now (log .entry)) (now (receive .entry)) p r (now (log .exit)) (now (receive .exit)) ⌝ }
@@ -26,31 +24,6 @@ fn forward(p: Progress, send: &[u8], receive: &mut [u8], words: &[u32], log: &mu
     let logged = p.logged;
     let call = p.parked;
     let step = advance(call, send, receive, &words[taken..], &mut log[logged..]);
-    let turn = step.turn;
-    let parked = step.parked;
-    Progress {
-        turn,
-        parked,
-        taken: taken + step.taken,
-        logged: logged + step.logged,
-    }
-}
-
-// The same of a call at its byte.
-fn forward_byte(
-    p: Progress,
-    send: &[u8],
-    receive: &mut [u8],
-    words: &[u32],
-    log: &mut [u32],
-) -> Progress
-    requires { ⌜ (p .taken ≤ length (now words)) × (p .logged ≤ length (now log)) × (p .parked .phase ≡ Phase.Transfer) ⌝ }
-    ensures { λ r. ⌜ Forward (now (send .entry)) (now (words .entry)) (now (log .entry)) (now (receive .entry)) p r (now (log .exit)) (now (receive .exit)) ⌝ }
-{
-    let taken = p.taken;
-    let logged = p.logged;
-    let call = p.parked;
-    let step = exchange(call, send, receive, &words[taken..], &mut log[logged..]);
     let turn = step.turn;
     let parked = step.parked;
     Progress {
@@ -99,7 +72,7 @@ pub(crate) fn transfer(
             }
         }
         // The byte goes out or comes in.
-        p = forward_byte(p, send, receive, words, log);
+        p = forward(p, send, receive, words, log);
         let turn = p.turn;
         match turn {
             Turn::Over(end) => break 'transfer p.answered(end),

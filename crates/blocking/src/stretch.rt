@@ -1,9 +1,11 @@
-// Bytes that follow each other: each word of ISR has the wanted flag, and no word and no room is missing.
+// Bytes that follow each other: each word of ISR has the wanted flag or none that ends the wait, and no word and no room is missing.
 ghost use Prim.Native.Nat.{_≤_};
 ghost use lib.ListN.{length};
 ghost use Rattle.blocking.specs.Steps.{Sends, Receives};
 use crate::Moved;
+use flags::Found;
 use flags::Isr;
+use flags::Wanted;
 use registers::data::Rxdr;
 use registers::data::Txdr;
 
@@ -47,11 +49,19 @@ pub(crate) fn send_bytes(from: Moved, send: &[u8], words: &[u32], log: &mut [u32
             taken = taken + 1;
             logged = logged + 4;
         } else {
-            return Moved {
-                count,
-                taken,
-                logged,
-            };
+            let found = Isr::found_in(isr, Wanted::Txis);
+            if let Found::Nothing = found {
+                log[logged] = Isr::READ;
+                log[logged + 1] = isr;
+                taken = taken + 1;
+                logged = logged + 2;
+            } else {
+                return Moved {
+                    count,
+                    taken,
+                    logged,
+                };
+            }
         }
     }
 }
@@ -103,11 +113,19 @@ pub(crate) fn receive_bytes(
             taken = taken + 2;
             logged = logged + 4;
         } else {
-            return Moved {
-                count,
-                taken,
-                logged,
-            };
+            let found = Isr::found_in(isr, Wanted::Rxne);
+            if let Found::Nothing = found {
+                log[logged] = Isr::READ;
+                log[logged + 1] = isr;
+                taken = taken + 1;
+                logged = logged + 2;
+            } else {
+                return Moved {
+                    count,
+                    taken,
+                    logged,
+                };
+            }
         }
     }
 }

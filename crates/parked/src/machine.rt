@@ -1,7 +1,6 @@
 // A parked call: the access that it wants next, and the call after that access.
 ghost use mathlib.Core.Path.{_≡_};
 ghost use mathlib.Core.Bool.{cond};
-ghost use Prim.Native.Nat.{ℕ};
 ghost use Rattle.layout.specs.Words.{sadd8};
 ghost use Rattle.layout.specs.Layout.{ADDR, _has_};
 ghost use Rattle.flags.specs.Flags.{addressCode, directionOf};
@@ -203,40 +202,5 @@ impl Parked {
             phase,
             count,
         }
-    }
-}
-
-// The call after its access at the two phases that each byte of a transfer goes through.
-impl Parked {
-    fn at(self, phase: Phase, count: usize) -> Parked
-        ensures { λ r. ⌜ r ≡ record { kind = self .kind; address = self .address; send = self .send; receive = self .receive; phase = phase; count = count } ⌝ }
-    {
-        let kind = self.kind;
-        Parked {
-            kind,
-            address: self.address,
-            send: self.send,
-            receive: self.receive,
-            phase,
-            count,
-        }
-    }
-
-    // A call that waits has read ISR.
-    pub fn waited(self, isr: u32) -> Parked
-        ensures { λ r. ⌜ (self .phase ≡ Phase.Wait → r ≡ after self isr) ⌝ }
-    {
-        self.at(self.busy_wait(isr), self.count)
-    }
-
-    // A byte went out or came in; `bound` is the length that the count counts to.
-    pub fn exchanged(self, bound: usize) -> Parked
-        ensures { λ r. ⌜ ((word : ℕ) → self .phase ≡ Phase.Transfer → bound ≡ span self → r ≡ after self word) ⌝ }
-    {
-        let count = self.count;
-        if count < bound {
-            return self.at(Phase::Wait, count + 1);
-        }
-        self.at(Phase::Wait, count)
     }
 }

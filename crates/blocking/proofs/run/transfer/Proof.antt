@@ -4,7 +4,7 @@ use Prim.Native.Nat.{ℕ, _+_, _-_, _≤_, zero-le}
 use native.Mathlib.Omega.{arith}
 use lib.ListN.{length}
 use borrow.Author.Needs.{needs}
-use Rattle.blocking.proofs.Stretches.{carried-none, carried-step, carried-on, shorter, ended, more-again, more-found, byte-next}
+use Rattle.blocking.proofs.Stretches.{carried-none, carried-step, carried-on, shorter, ended, more-again, more-found}
 use Rattle.blocking.specs.Steps.{Carried}
 use Rattle.blocking.proofs.run.transfer.Statement.{statement}
 use Rattle.blocking.proofs.run.transfer.Tie as tie
@@ -37,37 +37,37 @@ loop-again c =
     let f = c .before .before .before .before .before .before .forward in
     carried-step (c .before .before .before .before .before .before .before .before .before .loop .inv) (f .ensures) (f .kept .1 .1 .1 .1 .0) (f .kept .1 .1 .0)
 
-forward-byte-requires : tie.Need-forward-byte-requires Inv-loop μ-loop Inv-transfer μ-transfer
-forward-byte-requires c κs =
+forward-requires-2 : tie.Need-forward-requires-2 Inv-loop μ-loop Inv-transfer μ-transfer
+forward-requires-2 c κs =
     let l = c .before .before .before .before .before .before .before .before .before .before .before .loop in
     let f = c .before .before .before .before .before .before .before .before .forward in
     let d = carried-step (l .inv) (f .ensures) (f .kept .1 .1 .1 .1 .0) (f .kept .1 .1 .0) in
-    (d .words, d .room, byte-next (f .ensures) (c .before .before .enum-told2 .given .1))
+    (d .words, d .room)
 
 transfer-less : tie.Need-transfer-less Inv-loop μ-loop Inv-transfer μ-transfer
 transfer-less c =
     let f = c .before .before .before .before .before .before .before .before .before .before .before .before .before .before .before .forward in
-    let g = c .before .before .before .before .before .before .forward-byte in
+    let g = c .before .before .before .before .before .before .forward2 in
     let d = carried-step (carried-step (c .before .before .before .before .before .before .before .before .before .before .before .before .before .before .before .before .before .before .loop .inv) (f .ensures) (f .kept .1 .1 .1 .1 .0) (f .kept .1 .1 .0)) (g .ensures) (g .kept .1 .1 .1 .1 .0) (g .kept .1 .1 .0) in
     shorter d (omega (arith, more-found (f .ensures) (c .before .before .before .before .before .before .before .before .before .enum-told2 .given .1), g .ensures .more, c .before .before .before .before .before .before .before .before .before .before .before .before .before .before .before .before .before .before .loop .inv .more))
 
 transfer-again : tie.Need-transfer-again Inv-loop μ-loop Inv-transfer μ-transfer
 transfer-again c =
     let f = c .before .before .before .before .before .before .before .before .before .before .before .before .before .before .before .forward in
-    let g = c .before .before .before .before .before .before .forward-byte in
+    let g = c .before .before .before .before .before .before .forward2 in
     carried-step (carried-step (carried-on (c .before .before .before .before .before .before .before .before .before .before .before .before .before .before .before .before .before .before .before .transfer .inv) (c .before .before .before .before .before .before .before .before .before .before .before .before .before .before .before .before .before .before .loop .inv)) (f .ensures) (f .kept .1 .1 .1 .1 .0) (f .kept .1 .1 .0)) (g .ensures) (g .kept .1 .1 .1 .1 .0) (g .kept .1 .1 .0)
 
 transfer-less-2 : tie.Need-transfer-less-2 Inv-loop μ-loop Inv-transfer μ-transfer
 transfer-less-2 c =
     let f = c .before .before .before .before .before .before .before .before .before .before .before .before .before .before .before .forward in
-    let g = c .before .before .before .before .before .before .forward-byte in
+    let g = c .before .before .before .before .before .before .forward2 in
     let d = carried-step (carried-step (c .before .before .before .before .before .before .before .before .before .before .before .before .before .before .before .before .before .before .loop .inv) (f .ensures) (f .kept .1 .1 .1 .1 .0) (f .kept .1 .1 .0)) (g .ensures) (g .kept .1 .1 .1 .1 .0) (g .kept .1 .1 .0) in
     shorter d (omega (arith, more-found (f .ensures) (c .before .before .before .before .before .before .before .before .before .enum-told2 .given .1), g .ensures .more, c .before .before .before .before .before .before .before .before .before .before .before .before .before .before .before .before .before .before .loop .inv .more))
 
 transfer-again-2 : tie.Need-transfer-again-2 Inv-loop μ-loop Inv-transfer μ-transfer
 transfer-again-2 c =
     let f = c .before .before .before .before .before .before .before .before .before .before .before .before .before .before .before .forward in
-    let g = c .before .before .before .before .before .before .forward-byte in
+    let g = c .before .before .before .before .before .before .forward2 in
     carried-step (carried-step (carried-on (c .before .before .before .before .before .before .before .before .before .before .before .before .before .before .before .before .before .before .before .transfer .inv) (c .before .before .before .before .before .before .before .before .before .before .before .before .before .before .before .before .before .before .loop .inv)) (f .ensures) (f .kept .1 .1 .1 .1 .0) (f .kept .1 .1 .0)) (g .ensures) (g .kept .1 .1 .1 .1 .0) (g .kept .1 .1 .0)
 
 same-length : tie.Need-same-length Inv-loop μ-loop Inv-transfer μ-transfer
@@ -88,19 +88,19 @@ returns c =
 same-length-3 : tie.Need-same-length-3 Inv-loop μ-loop Inv-transfer μ-transfer
 same-length-3 c =
     let f = c .before .before .before .before .before .before .before .before .before .before .before .before .before .before .before .before .before .forward in
-    let g = c .before .before .before .before .before .before .before .before .forward-byte in
+    let g = c .before .before .before .before .before .before .before .before .forward2 in
     carried-step (carried-step (carried-on (c .before .before .before .before .before .before .before .before .before .before .before .before .before .before .before .before .before .before .before .before .before .transfer .inv) (c .before .before .before .before .before .before .before .before .before .before .before .before .before .before .before .before .before .before .before .before .loop .inv)) (f .ensures) (f .kept .1 .1 .1 .1 .0) (f .kept .1 .1 .0)) (g .ensures) (g .kept .1 .1 .1 .1 .0) (g .kept .1 .1 .0) .wide
 
 same-length-4 : tie.Need-same-length-4 Inv-loop μ-loop Inv-transfer μ-transfer
 same-length-4 c =
     let f = c .before .before .before .before .before .before .before .before .before .before .before .before .before .before .before .before .before .forward in
-    let g = c .before .before .before .before .before .before .before .before .forward-byte in
+    let g = c .before .before .before .before .before .before .before .before .forward2 in
     carried-step (carried-step (carried-on (c .before .before .before .before .before .before .before .before .before .before .before .before .before .before .before .before .before .before .before .before .before .transfer .inv) (c .before .before .before .before .before .before .before .before .before .before .before .before .before .before .before .before .before .before .before .before .loop .inv)) (f .ensures) (f .kept .1 .1 .1 .1 .0) (f .kept .1 .1 .0)) (g .ensures) (g .kept .1 .1 .1 .1 .0) (g .kept .1 .1 .0) .long
 
 returns-2 : tie.Need-returns-2 Inv-loop μ-loop Inv-transfer μ-transfer
 returns-2 c =
     let f = c .before .before .before .before .before .before .before .before .before .before .before .before .before .before .before .before .before .forward in
-    let g = c .before .before .before .before .before .before .before .before .forward-byte in
+    let g = c .before .before .before .before .before .before .before .before .forward2 in
     ended (carried-step (carried-on (c .before .before .before .before .before .before .before .before .before .before .before .before .before .before .before .before .before .before .before .before .before .transfer .inv) (c .before .before .before .before .before .before .before .before .before .before .before .before .before .before .before .before .before .before .before .before .loop .inv)) (f .ensures) (f .kept .1 .1 .1 .1 .0) (f .kept .1 .1 .0)) (g .ensures) (g .kept .1 .1 .1 .1 .0) (g .kept .1 .1 .0) _ (c .before .before .turn2 .given .1) (c .answered2 .ensures)
 
 pub transfer-spec : {M : Type 1} → statement M
@@ -120,7 +120,7 @@ transfer-spec =
     (λ c. search needs)
     (λ c. search needs)
     (λ c κs. search needs)
-    forward-byte-requires
+    forward-requires-2
     (λ c. search needs)
     (λ c κs. search needs)
     (λ c. search needs)

@@ -6,7 +6,7 @@ use lib.ListN.{length, getD, length-set}
 use borrow.Author.Needs.{needs}
 use Rattle.blocking.specs.Steps.{Sends}
 use Rattle.blocking.proofs.Stretches.{carried-none, carried-on}
-use Rattle.blocking.proofs.Moves.{moved, send-one}
+use Rattle.blocking.proofs.Moves.{moved, send-one, idles-out}
 use Rattle.blocking.proofs.stretch.send_bytes.Statement.{statement}
 use Rattle.blocking.proofs.stretch.send_bytes.Tie as tie
 
@@ -14,7 +14,7 @@ abbrev Inv-loop : tie.InvT-loop
 Inv-loop send words log₀ count₀ taken₀ logged₀ log count taken logged = Sends send words log₀ (moved count₀ taken₀ logged₀) log (moved count taken logged)
 
 abbrev μ-loop : tie.MeasureT-loop
-μ-loop send words log₀ count₀ taken₀ logged₀ log count taken logged = length send - count
+μ-loop send words log₀ count₀ taken₀ logged₀ log count taken logged = length words - taken
 
 loop-holds : tie.Need-loop-holds Inv-loop μ-loop
 loop-holds c = record { words = c .before .before .before .pre .0; room = c .before .before .before .pre .1; long = refl; carried = λ p b i l. carried-none (c .before .before .before .pre .0) (c .before .before .before .pre .1) }
@@ -59,11 +59,27 @@ loop-again c =
       carried = λ p b i e. rw (c .sent .ensures) (carried-on (l .inv .carried p b i e) (send-one (a .send .now) (a .words .now) (l .log) b p (l .count) (l .taken) (l .logged) i e (c .before .before .before .before .before .before .before .if1 .left) (c .before .before .before .before .before .before .if2 .left) room set));
     }
 
+slice-write-log-6 : tie.Need-slice-write-log-6 Inv-loop μ-loop
+slice-write-log-6 c = simp length-set (omega (arith, c .before .before .before .before .before .before .if3 .left, c .before .before .before .before .before .before .before .before .before .loop .inv .room))
+
+loop-again-2 : tie.Need-loop-again-2 Inv-loop μ-loop
+loop-again-2 c =
+    let l = c .before .before .before .before .before .before .before .before .before .loop in
+    let a = c .before .before .before .before .before .before .before .before .before .before .before .before .before .args in
+    let room : l .logged + 2 ≤ length (l .log) = omega (arith, c .before .before .before .before .before .before .if3 .left, l .inv .room) in
+    let found = sym (c .before .before .found-in .ensures) ∙ c .enum-told .given .1 in
+    record {
+      words = omega (arith, c .before .before .before .before .before .before .before .if2 .left);
+      room = simp length-set room;
+      long = simp length-set (l .inv .long);
+      carried = λ p b i e. carried-on (l .inv .carried p b i e) (idles-out (a .send .now) (a .words .now) (l .log) b p (l .count) (l .taken) (l .logged) i e (c .before .before .before .before .before .before .before .before .if1 .left) (c .before .before .before .before .before .before .before .if2 .left) room found);
+    }
+
 same-length-4 : tie.Need-same-length-4 Inv-loop μ-loop
-same-length-4 c = c .before .before .before .before .before .before .loop .inv .long
+same-length-4 c = c .before .before .before .before .before .before .before .before .loop .inv .long
 
 returns-4 : tie.Need-returns-4 Inv-loop μ-loop
-returns-4 c = c .before .before .before .before .before .before .loop .inv
+returns-4 c = c .before .before .before .before .before .before .before .before .loop .inv
 
 pub send-bytes-spec : {M : Type 1} → statement M
-send-bytes-spec = tie.close (tie.spec Inv-loop μ-loop loop-holds same-length returns same-length-2 returns-2 (λ c. omega arith) same-length-3 returns-3 (λ c. omega arith) (λ c. omega arith) (λ c κs. tt) (λ c. omega arith) (λ c. search needs) (λ c. omega arith) (λ c. omega arith) slice-write-log-2 (λ c. omega arith) (λ c. omega arith) slice-write-log-3 (λ c. omega arith) (λ c κs. tt) (λ c. omega arith) (λ c. omega arith) slice-write-log-4 (λ c. omega arith) (λ c. omega arith) (λ c. omega arith) (λ c. omega arith) loop-again same-length-4 returns-4)
+send-bytes-spec = tie.close (tie.spec Inv-loop μ-loop loop-holds same-length returns same-length-2 returns-2 (λ c. omega arith) same-length-3 returns-3 (λ c. omega arith) (λ c. omega arith) (λ c κs. tt) (λ c. omega arith) (λ c. search needs) (λ c. omega arith) (λ c. omega arith) slice-write-log-2 (λ c. omega arith) (λ c. omega arith) slice-write-log-3 (λ c. omega arith) (λ c κs. tt) (λ c. omega arith) (λ c. omega arith) slice-write-log-4 (λ c. omega arith) (λ c. omega arith) (λ c. omega arith) (λ c. omega arith) loop-again (λ c κs. tt) (λ c. search needs) (λ c. omega arith) (λ c. search needs) (λ c. omega arith) (λ c. omega arith) slice-write-log-6 (λ c. omega arith) (λ c. omega arith) (λ c. omega arith) loop-again-2 same-length-4 returns-4)
