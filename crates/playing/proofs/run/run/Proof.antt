@@ -1,8 +1,8 @@
--- `play::run::run` is safe and ends.
+-- `playing::run::run` is safe and ends.
 use Prim.Native.Nat.{_-_, _≤_}
 use borrow.Author.Needs.{needs}
-use Rattle.play.proofs.run.run.Statement.{statement}
-use Rattle.play.proofs.run.run.Tie as tie
+use Rattle.playing.proofs.run.run.Statement.{statement}
+use Rattle.playing.proofs.run.run.Tie as tie
 
 abbrev Inv-loop : tie.InvT-loop
 Inv-loop buffer₀ line₀ words₀ log₀ send₀ recv₀ out₀ at₀ end₀ kept₀ number₀ buffer line words log send recv out at end kept number = 0 ≤ number

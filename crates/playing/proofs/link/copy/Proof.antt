@@ -1,8 +1,8 @@
--- `play::link::copy` is safe and ends.
+-- `playing::link::copy` is safe and ends.
 use Prim.Native.Nat.{_-_, _≤_}
 use borrow.Author.Needs.{needs}
-use Rattle.play.proofs.link.copy.Statement.{statement}
-use Rattle.play.proofs.link.copy.Tie as tie
+use Rattle.playing.proofs.link.copy.Statement.{statement}
+use Rattle.playing.proofs.link.copy.Tie as tie
 
 abbrev Inv-loop : tie.InvT-loop
 Inv-loop bytes data₀ i₀ «data» i = 0 ≤ i
