@@ -22,7 +22,7 @@ use Rattle.parked.specs.declared.Next.the-variants.{Read as ReadA, Write as Wri
 use Rattle.parked.specs.declared.Parked.{Parked}
 use Rattle.phases.specs.Kinds.{incoming, restarts}
 use Rattle.parked.specs.Wants.{more, wantsAt}
-use Rattle.parked.specs.After.{tcWait, wanted, found, afterFound, phaseAt, turns, moves, after}
+use Rattle.parked.specs.After.{wanted, afterFound, phaseAt, turns, moves, after}
 use Rattle.phases.specs.Phases.{role}
 use Rattle.parked.proofs.Phases.{atPhase, wants-at}
 use Rattle.blocking.specs.Steps.{Carried, waiting}
@@ -105,15 +105,11 @@ after-restart p w e r = rw (e, r)
 
 module _ (p : Parked) (i : incoming (p .kind) ≡ false) (r : restarts (p .kind) ≡ true) (m : more p ≡ false) where
   wanted-tc : wanted p ≡ Tc
-  unfolding wanted tcWait
+  unfolding wanted
   wanted-tc = rw (i, m, r)
 
-  found-restart : found p ≡ Restart
-  unfolding found tcWait
-  found-restart = rw (m, r)
-
   restart-found : (w : ℕ) → w has TC ≡ true → afterFound (foundIn w (wanted p)) p ≡ Restart
-  restart-found w h = rw (wanted-tc, met w Tc h) found-restart
+  restart-found w h = rw (wanted-tc, met w Tc h, m, r)
 
 module _ (s ws log b : List ℕ) (p : Parked) (n t g : ℕ) where
   pub restart : p .kind ≡ WriteRead → p .send ≤ n → t < length ws → g + 4 ≤ length log → getD ws t 0 has TC ≡ true
@@ -153,5 +149,5 @@ neither true = refl
 neither false = refl
 
 pub wanted-outside : (p : Parked) → restarts (p .kind) ≡ false → wanted p ≡ cond (incoming (p .kind)) Rxne Txis
-unfolding wanted tcWait
+unfolding wanted
 wanted-outside p r = rw (r, neither (more p))

@@ -5,9 +5,7 @@ use mathlib.Core.List.{[], _∷_}
 use lib.Dec.{eqb}
 use Rattle.answers.specs.Answers.{Said, says, directionNumber}
 use Rattle.flags.specs.declared.Wanted.{Wanted}
-use Rattle.flags.specs.declared.Wanted.the-variants.{Txis as WantTxis, Rxne as WantRxne, Tc as WantTc}
 use Rattle.flags.specs.declared.Found.{Found}
-use Rattle.flags.specs.declared.Found.the-variants.{Wanted as Met, Berr as MetBerr, Arlo as MetArlo, Nackf as MetNackf, Tcr as MetTcr, Addr as MetAddr, Stopf as MetStopf, Nothing as MetNothing}
 use Rattle.layout.specs.Layout.{TXE, TXIS, ADDR, _has_}
 use Rattle.flags.specs.Flags.{foundIn, directionOf, addressCode}
 use Rattle.phases.specs.declared.Kind.the-variants.{ReadBack}
@@ -18,21 +16,18 @@ use Rattle.phases.specs.declared.Role.the-variants.{Byte, Second, Other, Nothin
 use Rattle.phases.specs.declared.Phase.{Phase}
 use Rattle.phases.specs.declared.Phase.the-variants.{Open, Wait, Transfer, Restart, Stretched, Refuse, ClearBerr, ClearArlo, ClearNackf, ClearStopf, FlushTxis, FlushDummy, FlushTxe, FlushEmpty, Listen, Code, Ended}
 use Rattle.parked.specs.declared.Parked.{Parked}
-use Rattle.phases.specs.Kinds.{incoming, restarts, pads}
+use Rattle.phases.specs.Kinds.{restarts}
 use Rattle.parked.specs.Wants.{span, more}
 use Rattle.phases.specs.Phases.{afterOpening, role}
-
--- the wait for TC: a `write_read` has sent its bytes
-unfoldable pub tcWait : Parked → Bool
-tcWait p = cond (more p) false (restarts (p .kind))
+use Rattle.waits.specs.Waits.{wanted as wantedOf, compared as comparedOf, afterFound as afterFoundOf}
 
 -- the flag that is waited for
 unfoldable pub wanted : Parked → Wanted
-wanted p = cond (incoming (p .kind)) WantRxne (cond (tcWait p) WantTc WantTxis)
+wanted p = wantedOf (p .kind) (more p)
 
 -- the length that a final flag compares with the count: 254 in the wait for TC
 unfoldable pub compared : Parked → ℕ
-compared p = cond (tcWait p) 254 (span p)
+compared p = comparedOf (p .kind) (more p) (span p)
 
 unfoldable pub whole : Parked → Bool
 whole p = eqb (p .count) (compared p)
@@ -56,20 +51,9 @@ answer Addr p = addrAnswer p
 answer Stopf p = stopAnswer p
 answer (Addressed isr) p = says 0x41 (addressCode isr ∷ directionNumber (directionOf isr) ∷ [])
 
--- the wanted flag: TC restarts; a byte is moved while one is left, and `slave_write` sends on
-unfoldable pub found : Parked → Phase
-found p = cond (tcWait p) Restart (cond (pads (p .kind)) Transfer (cond (more p) Transfer Wait))
-
--- a final flag ends the whole call; NACKF, TCR and no flag go on waiting
+-- the phase that a found flag leads to
 abbrev pub afterFound : Found → Parked → Phase
-afterFound Met p = found p
-afterFound MetBerr p = ClearBerr
-afterFound MetArlo p = ClearArlo
-afterFound MetNackf p = ClearNackf
-afterFound MetTcr p = Stretched
-afterFound MetAddr p = Ended Addr
-afterFound MetStopf p = FlushTxis
-afterFound MetNothing p = Wait
+afterFound flag p = afterFoundOf flag (p .kind) (more p)
 
 -- the phase after the access
 abbrev pub phaseAt : Phase → Parked → ℕ → Phase

@@ -1,57 +1,22 @@
-// `busy_wait`: what each flag leads to, and the answers of the final flags.
+// `busy_wait` of a parked call, and the answers of the final flags. What each flag leads to is in `waits`.
 ghost use mathlib.Core.Path.{_≡_};
 ghost use Rattle.answers.specs.Answers.{said};
 ghost use Rattle.flags.specs.Flags.{foundIn};
-ghost use Rattle.parked.specs.After.{tcWait, wanted, compared, whole, addrAnswer, stopAnswer, answer, found, afterFound};
+ghost use Rattle.parked.specs.After.{wanted, whole, addrAnswer, stopAnswer, answer, afterFound};
 use crate::Parked;
 use crate::machine::addressed;
 use answers::Answer;
-use flags::Found;
-use flags::Isr;
-use flags::Wanted;
 use phases::End;
 use phases::Phase;
+use waits::busy_wait;
+use waits::compared;
 
 impl Parked {
-    // Whether it is the wait for TC: a `write_read` has sent its bytes.
-    fn tc_wait(self) -> bool
-        ensures { λ r. ⌜ r ≡ tcWait self ⌝ }
-    {
-        if self.more() {
-            return false;
-        }
-        let kind = self.kind;
-        kind.restarts()
-    }
-
-    // The flag that is waited for.
-    fn wanted(self) -> Wanted
-        ensures { λ r. ⌜ r ≡ wanted self ⌝ }
-    {
-        let kind = self.kind;
-        if kind.incoming() {
-            return Wanted::Rxne;
-        }
-        if self.tc_wait() {
-            return Wanted::Tc;
-        }
-        Wanted::Txis
-    }
-
-    // The length that a final flag compares with the count. The wait for TC has a dummy.
-    fn compared(self) -> usize
-        ensures { λ r. ⌜ r ≡ compared self ⌝ }
-    {
-        if self.tc_wait() {
-            return 254;
-        }
-        self.span()
-    }
-
     fn whole(self) -> bool
         ensures { λ r. ⌜ r ≡ whole self ⌝ }
     {
-        let compared = self.compared();
+        let kind = self.kind;
+        let compared = compared(kind, self.more(), self.span());
         self.count == compared
     }
 
@@ -77,43 +42,12 @@ impl Parked {
         Answer::IncorrectFrameSize(self.count)
     }
 
-    // The wanted flag: a byte is moved while one is left. A slave sends on, a `write_read` restarts.
-    fn found(self) -> Phase
-        ensures { λ r. ⌜ r ≡ found self ⌝ }
-    {
-        if self.more() {
-            return Phase::Transfer;
-        }
-        let kind = self.kind;
-        if kind.restarts() {
-            return Phase::Restart;
-        }
-        if kind.pads() {
-            return Phase::Transfer;
-        }
-        Phase::Wait
-    }
-
-    fn after_found(self, flag: Found) -> Phase
-        ensures { λ r. ⌜ r ≡ afterFound flag self ⌝ }
-    {
-        match flag {
-            Found::Wanted => self.found(),
-            Found::Berr => Phase::ClearBerr,
-            Found::Arlo => Phase::ClearArlo,
-            Found::Nackf => Phase::ClearNackf,
-            Found::Tcr => Phase::Stretched,
-            Found::Addr => Phase::Ended(End::Addr),
-            Found::Stopf => Phase::FlushTxis,
-            Found::Nothing => Phase::Wait,
-        }
-    }
-
     // The flags of an ISR word: the wanted one, then the others in the order of `busy_wait`.
     pub fn busy_wait(self, isr: u32) -> Phase
         ensures { λ r. ⌜ r ≡ afterFound (foundIn isr (wanted self)) self ⌝ }
     {
-        self.after_found(Isr::found_in(isr, self.wanted()))
+        let kind = self.kind;
+        busy_wait(kind, self.more(), isr)
     }
 
     // The answer where no access follows.

@@ -16,11 +16,11 @@ use phases::End;
 use phases::Kind;
 use phases::Phase;
 use phases::Role;
-use phases::flush::pending_txe;
-use phases::flush::pending_txis;
 use registers::cr2::Cr2;
 use registers::data::Rxdr;
 use registers::data::Txdr;
+use waits::flush::pending_txe;
+use waits::flush::pending_txis;
 
 // The next access.
 impl Parked {

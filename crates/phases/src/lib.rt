@@ -3,7 +3,6 @@
 ghost use mathlib.Core.Path.{_≡_};
 ghost use Rattle.phases.specs.Phases.{role};
 
-pub mod flush;
 pub mod kinds;
 pub mod lengths;
 pub mod open;

@@ -17,7 +17,7 @@ use Rattle.parked.specs.declared.Next.the-variants.{Read, Write}
 use Rattle.parked.specs.declared.Parked.{Parked}
 use Rattle.phases.specs.Kinds.{incoming, pads}
 use Rattle.parked.specs.Wants.{span, more}
-use Rattle.parked.specs.After.{tcWait, wanted, found, afterFound}
+use Rattle.parked.specs.After.{wanted, afterFound}
 use Rattle.parked.proofs.Phases.{wants-at}
 use Rattle.runs.specs.Run.{next}
 
@@ -53,15 +53,14 @@ module _ (p : Parked) where
   wanted-in i = rw i
 
   pub wanted-out : incoming (p .kind) ≡ false → more p ≡ true → wanted p ≡ Txis
-  unfolding wanted tcWait
+  unfolding wanted
   wanted-out i m = rw (i, m)
 
 same : (t : Bool) (f : Phase) → cond t f f ≡ f
 same true f = refl
 same false f = refl
 
-found-more : (p : Parked) → more p ≡ true → found p ≡ Transfer
-unfolding found tcWait
+found-more : (p : Parked) → more p ≡ true → afterFound Met p ≡ Transfer
 found-more p m = rw m (same (pads (p .kind)) Transfer)
 
 pub met : (w : ℕ) (f : Wanted) → w has wantedName f ≡ true → foundIn w f ≡ Met

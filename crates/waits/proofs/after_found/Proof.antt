@@ -1,7 +1,7 @@
--- `parked::Parked::after_found` meets its contract.
+-- `waits::after_found` meets its contract.
 use borrow.Author.Needs.{needs}
-use Rattle.parked.proofs.Parked.after_found.Statement.{statement}
-use Rattle.parked.proofs.Parked.after_found.Tie as tie
+use Rattle.waits.proofs.after_found.Statement.{statement}
+use Rattle.waits.proofs.after_found.Tie as tie
 
 returns : tie.Need-returns
 returns c = rw (c .before .enum-told .given .1) (c .found .ensures)

@@ -2,8 +2,8 @@
 ghost use mathlib.Core.Path.{_≡_};
 ghost use mathlib.Core.Bool.{cond};
 ghost use Rattle.layout.specs.Layout.{TXIS, TXE, _has_};
-use crate::Phase;
 use flags::Isr;
+use phases::Phase;
 
 // `flush_txdr`: a pending TXIS is answered with dummy data.
 pub fn pending_txis(isr: u32) -> Phase

@@ -1,0 +1,84 @@
+// `busy_wait`: the flag that a call waits for, and the phase that each flag leads to.
+// A wait is told the kind of the call, and whether a byte is left to send or a place to fill (`more`).
+ghost use mathlib.Core.Path.{_≡_};
+ghost use Rattle.flags.specs.Flags.{foundIn};
+ghost use Rattle.waits.specs.Waits.{tcWait, wanted, compared, found, afterFound};
+use flags::Found;
+use flags::Isr;
+use flags::Wanted;
+use phases::End;
+use phases::Kind;
+use phases::Phase;
+
+pub mod flush;
+
+// Whether it is the wait for TC: a `write_read` has sent its bytes.
+fn tc_wait(kind: Kind, more: bool) -> bool
+    ensures { λ r. ⌜ r ≡ tcWait kind more ⌝ }
+{
+    if more {
+        return false;
+    }
+    kind.restarts()
+}
+
+// The flag that is waited for.
+fn wanted(kind: Kind, more: bool) -> Wanted
+    ensures { λ r. ⌜ r ≡ wanted kind more ⌝ }
+{
+    if kind.incoming() {
+        return Wanted::Rxne;
+    }
+    if tc_wait(kind, more) {
+        return Wanted::Tc;
+    }
+    Wanted::Txis
+}
+
+// The length that a final flag compares with the count, of a call that counts to `span`. The wait for TC has a dummy.
+pub fn compared(kind: Kind, more: bool, span: usize) -> usize
+    ensures { λ r. ⌜ r ≡ compared kind more span ⌝ }
+{
+    if tc_wait(kind, more) {
+        return 254;
+    }
+    span
+}
+
+// The wanted flag: a byte is moved while one is left. A slave sends on, a `write_read` restarts.
+fn found(kind: Kind, more: bool) -> Phase
+    ensures { λ r. ⌜ r ≡ found kind more ⌝ }
+{
+    if more {
+        return Phase::Transfer;
+    }
+    if kind.restarts() {
+        return Phase::Restart;
+    }
+    if kind.pads() {
+        return Phase::Transfer;
+    }
+    Phase::Wait
+}
+
+fn after_found(flag: Found, kind: Kind, more: bool) -> Phase
+    ensures { λ r. ⌜ r ≡ afterFound flag kind more ⌝ }
+{
+    match flag {
+        Found::Wanted => found(kind, more),
+        Found::Berr => Phase::ClearBerr,
+        Found::Arlo => Phase::ClearArlo,
+        Found::Nackf => Phase::ClearNackf,
+        Found::Tcr => Phase::Stretched,
+        Found::Addr => Phase::Ended(End::Addr),
+        Found::Stopf => Phase::FlushTxis,
+        Found::Nothing => Phase::Wait,
+    }
+}
+
+// The flags of an ISR word: the wanted one, then the others in the order of `busy_wait`.
+pub fn busy_wait(kind: Kind, more: bool, isr: u32) -> Phase
+    ensures { λ r. ⌜ r ≡ afterFound (foundIn isr (wanted kind more)) kind more ⌝ }
+{
+    after_found(Isr::found_in(isr, wanted(kind, more)), kind, more)
+}
