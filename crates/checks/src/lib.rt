@@ -1,20 +1,14 @@
 // `check_isr_flags` and `execute_watchdog` over a link's fields, lent one by one: the core under the by-value and the lent calls.
 // The flag that the ISR word is taken as chooses the step.
 ghost use mathlib.Core.Path.{_≡_};
+ghost use Prim.Native.Nat.{ℕ};
+ghost use mathlib.Core.List.{List};
 ghost use lib.ListN.{length as size};
 ghost use Rattle.ending.specs.Link.{linkAt};
 ghost use Rattle.ending.specs.Call.{checkIsrFlags};
 ghost use Rattle.ending.specs.Outcome.{outcome, Matches};
-use crate::steps::on_addr;
-use crate::steps::on_arlo;
-use crate::steps::on_berr;
-use crate::steps::on_nackf;
-use crate::steps::on_nothing;
-use crate::steps::on_rxne;
-use crate::steps::on_stopf;
-use crate::steps::on_tc;
-use crate::steps::on_tcr;
-use crate::steps::on_txis;
+ghost use Rattle.ending.specs.Arms.{Arm};
+ghost use Rattle.checks.specs.Rest.{rest};
 use access::Report;
 use access::refused;
 use access::word_at;
@@ -22,8 +16,17 @@ use answers::Answer;
 use flags::Flag;
 use flags::Isr;
 use starts::impossible;
+use steps::addressed::on_addr;
+use steps::frame::on_tc;
+use steps::frame::on_tcr;
+use steps::on_arlo;
+use steps::on_berr;
+use steps::on_nackf;
+use transfer::on_nothing;
+use transfer::on_rxne;
+use transfer::on_stopf;
+use transfer::on_txis;
 
-mod steps;
 pub mod watchdog;
 
 // The check over a link's fields, lent one by one.
@@ -48,11 +51,8 @@ pub fn check_fields(
     }
     let flag = Isr::taken_as(word_at(words, 0));
     match flag {
-        Flag::Berr => on_berr(errors, words, log),
-        Flag::Arlo => on_arlo(words, log),
-        Flag::Nackf => on_nackf(words, log),
-        Flag::Txis => on_txis(index, n, data, words, log),
-        Flag::Rxne => on_rxne(index, n, data, words, log),
+        Flag::Txis => on_txis(index, n as u8, data, words, log),
+        Flag::Rxne => on_rxne(index, n as u8, data, words, log),
         Flag::Stopf => on_stopf(*address, watchdog, i, errors, words, log),
         Flag::Tc => on_tc(
             *address,
@@ -63,8 +63,25 @@ pub fn check_fields(
             words,
             log,
         ),
-        Flag::Tcr => on_tcr(words, log),
         Flag::Addr => on_addr(address, watchdog, index, length, words, log),
-        Flag::Nothing => on_nothing(words, log),
+        Flag::Berr | Flag::Arlo | Flag::Nackf | Flag::Tcr | Flag::Nothing => on_rest(
+            flag,
+            errors,
+            words,
+            log,
+        ),
+    }
+}
+
+// The flags that change the errors at most.
+fn on_rest(flag: Flag, errors: &mut u32, words: &[u32], log: &mut [u32]) -> Report
+    ensures { λ r. ⌜ ((a w i n h : ℕ) (d : List ℕ) → Arm (rest flag) (now (words .entry)) (linkAt a w i n (now (errors .entry)) h d) (linkAt a w i n (now (errors .exit)) h d) r (now (log .entry)) (now (log .exit))) ⌝ }
+{
+    match flag {
+        Flag::Berr => on_berr(errors, words, log),
+        Flag::Arlo => on_arlo(words, log),
+        Flag::Nackf => on_nackf(words, log),
+        Flag::Tcr => on_tcr(words, log),
+        _ => on_nothing(words, log),
     }
 }

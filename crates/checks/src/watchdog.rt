@@ -6,13 +6,13 @@ ghost use lib.ListN.{length as size};
 ghost use Rattle.ending.specs.Link.{linkAt};
 ghost use Rattle.ending.specs.Call.{executeWatchdog};
 ghost use Rattle.ending.specs.Outcome.{outcome, Matches};
-use crate::steps::one_more;
 use access::Report;
 use access::accessed;
 use access::refused;
 use answers::Answer;
 use registers::cr1::Cr1;
 use starts::impossible;
+use transfer::one_more;
 
 // `execute_watchdog` over a link's fields, lent one by one.
 pub fn watchdog_fields(

@@ -1,0 +1,17 @@
+-- `steps::on_arlo` meets its contract.
+use mathlib.Core.Path.{refl}
+use Rattle.flags.specs.declared.Flag.the-variants.{Arlo}
+use Rattle.ending.specs.Arms.{flagPlan}
+use Rattle.ending.proofs.Settling.{same}
+use borrow.Author.Needs.{needs}
+use Rattle.steps.proofs.on_arlo.Statement.{statement}
+use Rattle.steps.proofs.on_arlo.Tie as tie
+
+returns : tie.Need-returns
+returns c =
+    λ l.
+    let ws = c .before .before .before .before .before .before .before .args .words .now in
+    same (flagPlan Arlo ws l) l ws (rw (c .before .before .before .before .cleared .ensures) at (c .before .before .answered .ensures)) refl refl
+
+pub on-arlo-spec : {M : Type 1} → statement M
+on-arlo-spec = tie.close (tie.spec (λ c κs. tt) (λ c κs. tt) (λ c. search needs) returns)
