@@ -3,13 +3,19 @@
 --     shuts-link    and shut again
 --     gives-link    a copy of the link is the callee's first parameter
 --     fins-link     the end, with the token of the first parameter's lifetime
+--     look-walk     the whole walk
 use mathlib.Core.List.{_++_}
 use Prim.Native.Nat.{suc}
+use lib.Dec.{T}
+use mathlib.Core.Option.{Option, none}
+use mir.Syntax.{seq, assign, place, copy, rvOpd, deref}
 use mir.Val.{vunit}
 use base.Logic.{ex}
 use base.Fml.{fsep, fshr-bor}
 use contract.Lifetimes.{Lfts, Shares, toks}
-use types.Kit.{prop, show, updating, use2, now as at-once}
+use prog.Wp.{spotOf}
+use types.Kit.{prop, runs, atRet, mean, suffices, show, updating, use2, now as at-once}
+use types.Run.{of-opd, look}
 use denote.RattleType.{RattleType}
 use denote.Builtin.{unit}
 use denote.Memory.{cellAt, partAt}
@@ -18,12 +24,15 @@ use denote.Ref.{ShrRef}
 use denote.Steps.{looks, shuts}
 use denote.Struct.Steps.{spelt}
 use denote.Struct.Laws as LL
-use Rattle.nonblocking.proofs.Lending.{refl, ℕ, List, [], _∷_, URA, vptr, Is, id⊢, named, SProp, ent, sep, Fml, Lft, Share, flft, fobor, fat, Heap, Atoms, sem, RefT}
-use Rattle.nonblocking.proofs.Lending.{Given, Item, ‵, raw, _⊛_, _$_, move, use1, split, join, fsplit, fsplit3, fjoin, drop, frame, done, Goal, Soaks, Seq, Step, step, peeks, owned, shows, link-val}
+use Rattle.nonblocking.proofs.Lending.{_≡_, refl, sym, subst, ℕ, List, [], _∷_, URA, Val, Ty, Fn, Code, hasTy, WT, vptr, Is, id⊢, named, Memory, Routine, Fun, Calls, Loops, Frame, FmC, WpFn, Contract, Triple, Name as Symbol, SProp, ent, sep, Fml, Lft, Share, flft, fobor, fat, Heap, Atoms, sem, RefT}
+use Rattle.nonblocking.proofs.Lending.{Given, Item, ‵, raw, _⊛_, _$_, move, use1, split, join, fsplit, fsplit3, fjoin, drop, frame, done, Goal, Soaks, Seq, Step, step, peeks, owned, shows, link-val, link-fits, load, from, hop, stop}
 use Rattle.nonblocking.specs.declared.link.Link.{Link}
 use Rattle.nonblocking.proofs.link.Link as L
 use Rattle.nonblocking.proofs.link.Link.Laws as L′
-use Rattle.ffi.proofs.Relay.{front, last, front-share, last-share, stars, Fronts, all, toks-whole, stars-whole}
+use Rattle.access.specs.declared.Report.{Report}
+use Rattle.flat.specs.Out.{flat as six}
+use Rattle.lent.proofs.Cells.{cells, frame-of, Blocks, rest-fit, stored, Has, Free, put-in, starts, reads-it, sets}
+use Rattle.ffi.proofs.Relay.{front, last, front-share, last-share, stars, Fronts, all, toks-whole, stars-whole, Answered, Put, out-own, out-last, Ended-in, Log, log-code, log-lent, Log-lendable, Places, relay-code, Relayable, lends-log, relays}
 
 module _ {M : Type 1} {𝓤 : URA M} {H : Heap 𝓤} {A : Atoms 𝓤} {K : Type 0} {W : Given 𝓤 H A} {Γ : List (Item 𝓤)} where
   module _ {G : Goal 𝓤 H} where
@@ -53,9 +62,53 @@ module _ {M : Type 1} {𝓤 : URA M} {H : Heap 𝓤} {A : Atoms 𝓤} {K : Type 
   pub fins-link : K → (n : ℕ) (κs : Lfts (suc (suc n))) (qs : Shares (suc (suc n))) (Ls : List Fml) (L : Fml) (Q : SProp 𝓤) {Z : Type 0} (Left : Z → Fml) (Ensured : Z → SProp 𝓤) (zs : Z)
       → ent 𝓤 (all 𝓤 H A (Ls ++ (L ∷ []))) (sem 𝓤 H A (Left zs)) → ent 𝓤 Q (Ensured zs)
       → Seq K W (‵ (flft (last n (κs .1)) (last-share n (qs .1))) ∷ ‵ L ∷ raw (Fronts 𝓤 H A n (κs .1) (qs .1)) ∷ ‵ (stars Ls) ∷ raw Q ∷ ‵ (flft (κs .0) (qs .0)) ∷ [])
-      (prop (H .⇛ (ex 𝓤 (λ (u : Unit {0}). sep 𝓤 (sep 𝓤 (toks 𝓤 A (suc (suc n)) κs qs) (sem 𝓤 H A (unit .own u (vunit ∷ [])))) (ex 𝓤 (λ (ws : Z). sep 𝓤 (sem 𝓤 H A (Left ws)) (Ensured ws)))))))
+      (prop (Ended-in 𝓤 H A (suc (suc n)) κs qs Left Ensured))
   fins-link t n κs qs Ls L Q {Z} Left Ensured zs same says =
       updating t $ at-once t $ show t (λ (u : Unit {0}). sep 𝓤 (sep 𝓤 (toks 𝓤 A (suc (suc n)) κs qs) (sem 𝓤 H A (unit .own u (vunit ∷ [])))) (ex 𝓤 (λ (ws : Z). sep 𝓤 (sem 𝓤 H A (Left ws)) (Ensured ws)))) tt $
       move t (2 ∷ 0 ∷ []) $ use2 W (raw (toks 𝓤 A (suc n) (κs .1) (qs .1))) (toks-whole 𝓤 H A n (κs .1) (qs .1)) $ move t (4 ∷ 0 ∷ []) $ join t $ owned t unit (Is unit) (nothing-makes 𝓤 H A W) tt (vunit ∷ []) refl $ move t (1 ∷ 0 ∷ []) $ join t $ frame t $
       show t (λ (ws : Z). sep 𝓤 (sem 𝓤 H A (Left ws)) (Ensured ws)) zs $
       move t (1 ∷ 0 ∷ []) $ use2 W (‵ (stars (Ls ++ (L ∷ [])))) (stars-whole 𝓤 H A Ls L) $ use1 W (‵ (Left zs)) same $ frame t $ use1 W (raw (Ensured zs)) says $ done t
+
+-- ---- the whole walk: the link behind the first parameter is copied to local k, which is the callee's first operand
+pub record Lookable {M : Type 1} (𝓤 : URA M) (H : Heap 𝓤) (E : Frame 𝓤 H) (vs : List Val) (lk : RefT Link) (k : ℕ) (log : Option Log) : Type 0 where
+  pub there : Has 𝓤 H E (none ∷ stored vs) 1 (vptr (lk .ptr .0) (lk .ptr .1))
+  pub room : Free 𝓤 H E (none ∷ stored vs) k
+  pub is-link : spotOf 𝓤 H E k .0 ≡ L′.mir
+  pub lends : Log-lendable 𝓤 H E log (put-in (none ∷ stored vs) k (link-val (lk .now)))
+
+abbrev pub copied : List Val → RefT Link → ℕ → Option Log → List (Option Val)
+copied vs lk k log = log-lent log (put-in (none ∷ stored vs) k (link-val (lk .now)))
+
+abbrev pub copy-code : ℕ → Option Log → Code → Code
+copy-code k log rest = seq (assign (place k []) (rvOpd (copy (place 1 (deref L′.mir ∷ []))))) (log-code log rest)
+
+-- what the callee owns: the copy, and the other parameters
+abbrev pub with-link : RefT Link → List Fml → List Fml
+with-link lk Gs = L.the-row .own (lk .now) (link-val (lk .now) ∷ []) ∷ Gs
+
+module _ {M : Type 1} {𝓤 : URA M} {H : Heap 𝓤} {A : Atoms 𝓤} {K : Type 0} {W : Given 𝓤 H A} where
+  pub look-walk : K → (C : Calls 𝓤 H) (Λ : Loops 𝓤 H) → FmC 𝓤 H (W .laws) C → (n : ℕ) (κs : Lfts (suc (suc n))) (qs : Shares (suc (suc n))) (lk : RefT Link) (Gs : List Fml) (out : RefT (List ℕ))
+      → (s : Symbol) (e : Contract 𝓤) → Triple 𝓤 (C s) e → (to : e .Ghost) → ent 𝓤 (sep 𝓤 (Fronts 𝓤 H A n (κs .1) (qs .1)) (all 𝓤 H A (with-link lk Gs))) (e .pre to)
+      → {Z : Type 0} (Ls : Z → List Fml) (Q : Report → Z → SProp 𝓤) → ((w : Val) → ent 𝓤 (e .post to w) (mean 𝓤 H A (Answered 𝓤 H A n (front n (κs .1)) (front-share n (qs .1)) Ls Q w)))
+      → (mem : Memory → SProp 𝓤) (run : Routine → Fun 𝓤) (put-s : Symbol) → Triple 𝓤 (C put-s) (Put 𝓤 H A mem run)
+      → (f : Fn) (vs : List Val) (Kf : Val → SProp 𝓤) (k : ℕ) (log : Option Log) (ops : List ℕ) (υ : Ty) (m : Places) → f .body ≡ copy-code k log (relay-code s ops put-s υ m) → rest-fit (f .locals) vs
+      → ((bs : Blocks (f .locals)) → Lookable 𝓤 H (frame-of 𝓤 H (f .locals) bs) vs lk k log)
+      → ((bs : Blocks (f .locals)) → Relayable 𝓤 H (frame-of 𝓤 H (f .locals) bs) (copied vs lk k log) ops (e .args to) m out)
+      → {Y : Type 0} (Left : Y → Fml) (Ensured : Y → SProp 𝓤) (both : Z → List ℕ → Y) → ent 𝓤 (Ended-in 𝓤 H A (suc (suc n)) κs qs Left Ensured) (Kf vunit)
+      → ((zs : Z) (z : List ℕ) → ent 𝓤 (all 𝓤 H A (Ls zs ++ (out-last out z ∷ []))) (sem 𝓤 H A (Left (both zs z)))) → ((r : Report) (zs : Z) (z : List ℕ) → z ≡ six r → ent 𝓤 (Q r zs) (Ensured (both zs z)))
+      → Seq K W (raw (toks 𝓤 A (suc (suc n)) κs qs) ∷ ‵ (fsep (ShrRef (named 0) (κs .0) L.the-row .own lk (vptr (lk .ptr .0) (lk .ptr .1) ∷ [])) (stars (Gs ++ (out-own (last n (κs .1)) out ∷ [])))) ∷ []) (prop (WpFn 𝓤 H C Λ f vs Kf))
+  look-walk t C Λ fm n κs qs lk Gs out s e met to goes-in Ls Q comes-out mem run put-s put-met f vs Kf k log ops υ m is-body fit ok₁ ok₂ Left Ensured both closes same says =
+      let xs : List (Option Val) = none ∷ stored vs in
+      let h = lk .now in
+      let b = lk .ptr .0 in
+      let o = lk .ptr .1 in
+      starts t C Λ f vs Kf fit (λ bs.
+      let E = frame-of 𝓤 H (f .locals) bs in
+      subst (λ (code : Code). Seq K W (‵ (cells 𝓤 H E xs) ∷ raw (toks 𝓤 A (suc (suc n)) κs qs) ∷ ‵ (fsep (ShrRef (named 0) (κs .0) L.the-row .own lk (vptr b o ∷ [])) (stars (Gs ++ (out-own (last n (κs .1)) out ∷ [])))) ∷ []) (runs C Λ E code (atRet E Kf))) (sym is-body)
+      (move t (1 ∷ 2 ∷ []) $ takes-link t tt (suc n) κs qs lk (λ q′ was.
+      -- [the link's cell; the open borrow; what the other parameters own; their tokens; the locals]
+      sets t xs 4 refl (ok₁ bs .room) (subst (λ (τ : Ty). T (hasTy τ (link-val h)) × WT (link-val h)) (sym (ok₁ bs .is-link)) (link-fits 𝓤 H A W h was)) (of-opd t (load t (from t (hop t (reads-it t E xs 4 refl 1 (vptr b o) (ok₁ bs .there)) (stop t))) (look t 0 refl))) $
+      shuts-link t tt q′ h b o was $ gives-link t h was $ move t (3 ∷ []) $
+      lends-log t log (put-in xs k (link-val h)) (ok₁ bs .lends) $ move t (1 ∷ 2 ∷ 0 ∷ []) $
+      relays t C Λ fm E (copied vs lk k log) n (κs .1) (qs .1) (with-link lk Gs) out s e met to goes-in Ls Q comes-out mem run put-s put-met ops υ m (ok₂ bs) Kf
+      (λ r zs z known. suffices t (Ended-in 𝓤 H A (suc (suc n)) κs qs Left Ensured) closes $ fins-link t n κs qs (Ls zs) (out-last out z) (Q r zs) Left Ensured (both zs z) (same zs z) (says r zs z known)))))

@@ -1,22 +1,21 @@
 -- `ffi::fresh::construct` meets its contract: a walk of its MIR, by hand. It lends the link's fields to `construct_fields`, and hands the parameters that follow on as they are (`Thin.antt` of the crate `lent`).
 -- All that the proof knows of `construct_fields` is that it meets its contract.
+use lib.ListN.{length}
 use contract.Lifetimes.{Lfts, Shares}
 use mir.Syntax.{w32}
 use denote.Array.{Array}
 use denote.Plain.{uint-vals, uint-tells, uint-lawful}
 use denote.RattleType.{Denots}
-use denote.Laws.{Are, Ises, Spells, valss}
+use denote.Laws.{Spells}
 use denote.Builtin.{u32}
 use denote.Ref.{shr-tells}
 use denote.Signature.{Slot, typesAt}
 use denote.Slice.{slice-vals, shr-slice-tells, mut-slice-tells, shr-slice-lawful, mut-slice-lawful}
 use denote.Triple.End.{Kepts}
-use types.Kit.{Go, prop}
-use Rattle.nonblocking.proofs.Lending.{[], _∷_, List, refl, id⊢, URA, named, SProp, Memory, Routine, Heap, Calls, Loops, WpFn, Atoms, Fun, FmC, Given, Seq, _$_, !, move, RefT, tripleOf, Contract, Triple, ptr-vals}
-use Rattle.nonblocking.proofs.Lending.{look, init, stop, hop, fld, from, load, addr, and-then, no-more, assigns, land, returns, enter, alloc1, alloc0, params1, pass1, pass0, free0, agg, whole, sub, look-in, givenOf}
+use Rattle.nonblocking.proofs.Lending.{[], _∷_, List, refl, id⊢, URA, named, SProp, Memory, Routine, Heap, Calls, Loops, Atoms, Fun, FmC, Given, !, RefT, tripleOf, Contract, Triple, ptr-vals, givenOf}
 use Rattle.nonblocking.specs.declared.link.Link.{Link}
 use Rattle.lent.proofs.Loans.{Names, lifetimes, shares, references, pointers}
-use Rattle.lent.proofs.Thin.{others, Thin, Whole, Starts, at, enters, calls-lent, ends, passes, frees, thin-closes}
+use Rattle.lent.proofs.Thin.{others, Whole, Told, Runs, at, enters, thin-walk, thin-closes}
 use Rattle.ffi.proofs.fresh.construct_fields as callee
 use Rattle.ffi.proofs.fresh.construct_fields.Symbol as symbol
 use Rattle.ffi.proofs.fresh.construct_fields.Met as known
@@ -46,28 +45,18 @@ module _ {M : Type 1} (𝓤 : URA M) (H : Heap 𝓤) (A : Atoms 𝓤) (W : Given
   abbrev to-callee : Names → Callee 𝓤 H A at-mem run .Ghost
   to-callee n = ((lifetimes n (κs .1), shares n (qs .1), tt, references (lk .ptr .0) (lk .ptr .1) n (lk .now) x, pointers (lk .ptr .0) (lk .ptr .1) (y .0 .4 .1)), tt)
 
-  walk : Are (typesAt ss κs) (Ises (typesAt ss κs)) x (valss (typesAt ss κs) (spelt κs) x) → Seq (Go {0}) W (Starts ss ks 𝓤 H A (f.clauses 𝓤 H A at-mem run) y []) (prop (WpFn 𝓤 H C Λ code.function (Whole ss ks 𝓤 H A (f.clauses 𝓤 H A at-mem run) .args y) (Whole ss ks 𝓤 H A (f.clauses 𝓤 H A at-mem run) .post y)))
+  walk : Told ss spelt κs x → Runs 𝓤 H A ss ks (f.clauses 𝓤 H A at-mem run) W y C Λ code.function
   walk are =
-      enter ! C Λ code.function _ _ $
-      alloc1 ! (λ l0. alloc1 ! (λ l1. alloc1 ! (λ l2. alloc1 ! (λ l3. alloc1 ! (λ l4. alloc1 ! (λ l5. alloc1 ! (λ l6. alloc1 ! (λ l7. alloc1 ! (λ l8. alloc1 ! (λ l9. alloc1 ! (λ l10. alloc1 ! (λ l11. alloc1 ! (λ l12. alloc1 ! (λ l13. alloc1 ! (λ l14. alloc0 ! $ params1 ! $
-      -- [the locals, the last one first; what the walk starts from]
-      pass1 ! (init ! 26 refl (tt, tt)) $ pass1 ! (init ! 24 refl (tt, tt)) $ pass1 ! (init ! 22 refl (uint-lawful 𝓤 H A W w32 .typed (x .1 .0) _ (are .1 .0) .0)) $ pass1 ! (init ! 20 refl (shr-slice-lawful 𝓤 H A W (named 2) (κs .1 .1 .0) u32 .typed (x .1 .1 .0) _ (are .1 .1 .0) .0)) $ pass1 ! (init ! 18 refl (mut-slice-lawful 𝓤 H A W (named 3) (κs .1 .1 .1 .0) u32 .typed (x .1 .1 .1 .0) _ (are .1 .1 .1 .0) .0)) $ pass0 ! $
-      -- the fields' addresses, and the log again
-      assigns ! (addr ! (from ! (hop ! (look ! 26 refl) (fld ! refl (stop !))))) (from ! (stop !)) (init ! 16 refl (tt, tt)) $
-      assigns ! (addr ! (from ! (hop ! (look ! 26 refl) (fld ! refl (stop !))))) (from ! (stop !)) (init ! 14 refl (tt, tt)) $
-      assigns ! (addr ! (from ! (hop ! (look ! 26 refl) (fld ! refl (stop !))))) (from ! (stop !)) (init ! 12 refl (tt, tt)) $
-      assigns ! (addr ! (from ! (hop ! (look ! 26 refl) (fld ! refl (stop !))))) (from ! (stop !)) (init ! 10 refl (tt, tt)) $
-      assigns ! (addr ! (from ! (hop ! (look ! 26 refl) (fld ! refl (stop !))))) (from ! (stop !)) (init ! 8 refl (tt, tt)) $
-      assigns ! (addr ! (from ! (hop ! (look ! 26 refl) (fld ! refl (stop !))))) (from ! (stop !)) (init ! 6 refl (tt, tt)) $
-      assigns ! (addr ! (from ! (hop ! (look ! 26 refl) (fld ! refl (stop !))))) (from ! (stop !)) (init ! 4 refl (tt, tt)) $
-      assigns ! (addr ! (from ! (fld ! refl (hop ! (look-in ! 18 (sub ! 0 refl (whole !))) (stop !))))) (from ! (stop !)) (init ! 2 refl (tt, tt)) $
-      assigns ! (agg ! (and-then ! (load ! (from ! (stop !)) (look ! 2 refl)) (and-then ! (load ! (from ! (fld ! refl (stop !))) (look-in ! 18 (sub ! 1 refl (whole !)))) (no-more !)))) (from ! (stop !)) (init ! 0 refl (tt, (tt, (record { fits = are .1 .1 .1 .0 .0 .1 .0 }, tt)))) $
-      move ! (30 ∷ 31 ∷ 32 ∷ 33 ∷ 34 ∷ []) $ calls-lent ! fm ss ks (f.clauses 𝓤 H A at-mem run) y (Callee 𝓤 H A at-mem run) met to-callee (λ n. enters 𝓤 _) (λ n w. id⊢ 𝓤 _)
-      (λ n. (passes ! 18 refl (passes ! 16 refl (passes ! 14 refl (passes ! 12 refl (passes ! 10 refl (passes ! 8 refl (passes ! 6 refl (passes ! 26 refl (passes ! 24 refl (passes ! 22 refl (passes ! 2 refl (no-more !)))))))))))))
-      (λ r w l zs fits. land ! (from ! (stop !)) (init ! 34 refl fits) $ returns ! (look ! 34 refl) $
-      -- [what is there after the call; the locals, the last one first]
-      move ! (34 ∷ 35 ∷ 32 ∷ 33 ∷ 30 ∷ 31 ∷ 28 ∷ 29 ∷ 26 ∷ 27 ∷ 24 ∷ 25 ∷ 22 ∷ 23 ∷ 20 ∷ 21 ∷ 18 ∷ 19 ∷ 16 ∷ 17 ∷ 14 ∷ 15 ∷ 12 ∷ 13 ∷ 10 ∷ 11 ∷ 8 ∷ 9 ∷ 6 ∷ 7 ∷ []) $
-      frees ! $ frees ! $ frees ! $ frees ! $ frees ! $ frees ! $ frees ! $ frees ! $ frees ! $ frees ! $ frees ! $ frees ! $ frees ! $ frees ! $ frees ! $ free0 ! $ ends ! ss ks (f.clauses 𝓤 H A at-mem run) y r w l zs))))))))))))))))
+      thin-walk ! C Λ fm ss ks (f.clauses 𝓤 H A at-mem run) y symbol.name (Callee 𝓤 H A at-mem run) met to-callee (λ n. enters 𝓤 _) (λ n w. id⊢ 𝓤 _)
+      code.function (6 ∷ 7 ∷ 8 ∷ 9 ∷ 10 ∷ 11 ∷ 12 ∷ 2 ∷ 3 ∷ 4 ∷ 14 ∷ []) 6 5 (named 3) (x .1 .1 .1 .0 .ptr) (length (x .1 .1 .1 .0 .now)) refl
+      ((tt, tt), ((tt, tt), (uint-lawful 𝓤 H A W w32 .typed (x .1 .0) _ (are .1 .0) .0, (shr-slice-lawful 𝓤 H A W (named 2) (κs .1 .1 .0) u32 .typed (x .1 .1 .0) _ (are .1 .1 .0) .0, (mut-slice-lawful 𝓤 H A W (named 3) (κs .1 .1 .1 .0) u32 .typed (x .1 .1 .1 .0) _ (are .1 .1 .1 .0) .0, tt)))))
+      (λ bs. record {
+        points = ((refl, (refl, (refl, (tt, tt)))), ((refl, (refl, (refl, (tt, tt)))), ((refl, (refl, (refl, (tt, tt)))), ((refl, (refl, (refl, (tt, tt)))), ((refl, (refl, (refl, (tt, tt)))), ((refl, (refl, (refl, (tt, tt)))), ((refl, (refl, (refl, (tt, tt)))), tt)))))));
+        log = record { is-slice = refl; holds = refl; room = refl; fits = (tt, tt); points = refl; holds-still = refl; next-room = refl; next-fits = (tt, (tt, (record { fits = are .1 .1 .1 .0 .0 .1 .0 }, tt))) };
+        room = refl;
+        report = refl;
+      })
+      (λ bs n. (refl, (refl, (refl, (refl, (refl, (refl, (refl, (refl, (refl, (refl, (refl, tt))))))))))))
 
 pub construct-spec : {M : Type 1} → stated.statement M
 unfolding code.routine

@@ -1,5 +1,6 @@
 -- `ffi::link::i2c_get_errors_reset` meets its contract: a walk of its MIR, by hand. It hands its parameters on to `nonblocking::lent::get_errors_reset`, and the report and `out` to `flat::out::put_errors` (`Relay.antt`).
 -- All that the proof knows of either is that it meets its contract.
+use mathlib.Core.Option.{none}
 use contract.Fact.{fact-mono}
 use contract.Lifetimes.{Lfts, Shares, toks}
 use denote.RattleType.{Denots, Valss, flat}
@@ -7,12 +8,11 @@ use denote.Laws.{Are, Ises, Spells, valss}
 use denote.Signature.{typesAt}
 use denote.Triple.Clauses.{atExit}
 use types.Kit.{Go, prop}
-use types.Run.{unit-lit, of-opd}
-use Rattle.nonblocking.proofs.Lending.{[], _∷_, refl, id⊢, URA, SProp, Memory, Routine, Heap, Calls, Loops, WpFn, Atoms, Fun, FmC, Given, Seq, ‵, raw, _$_, !, move, owns, ptr-vals, mut-tells, named, tripleOf, Contract, Triple, lasts}
-use Rattle.nonblocking.proofs.Lending.{look, init, stop, hop, from, load, addr, and-then, no-more, assigns, land, returns, enter, alloc1, alloc0, params1, pass1, pass0, free0, givenOf}
-use Rattle.lent.proofs.Thin.{enters, passes, frees}
-use Rattle.ffi.proofs.Relay.{front, last, front-share, last-share, owned-list, last-list, Put, Numbers, out-own, out-last, calls-on, calls-put, fins, relay-closes}
+use Rattle.nonblocking.proofs.Lending.{[], _∷_, refl, id⊢, URA, SProp, Memory, Routine, Heap, Calls, Loops, WpFn, Atoms, Fun, FmC, Given, Seq, ‵, raw, !, owns, ptr-vals, mut-tells, named, tripleOf, Contract, Triple, lasts, givenOf}
+use Rattle.lent.proofs.Thin.{enters}
+use Rattle.ffi.proofs.Relay.{front, front-share, owned-list, last-list, Put, Numbers, numbers-type, relay-walk, relay-closes}
 use Rattle.nonblocking.proofs.link.Link as L
+use Rattle.nonblocking.proofs.link.Link.Laws as L′
 use Rattle.nonblocking.proofs.lent.get_errors_reset as callee
 use Rattle.nonblocking.proofs.lent.get_errors_reset.Symbol as symbol
 use Rattle.nonblocking.proofs.lent.get_errors_reset.Met as known
@@ -43,24 +43,13 @@ module _ {M : Type 1} (𝓤 : URA M) (H : Heap 𝓤) (A : Atoms 𝓤) (W : Given
 
   walk : Are (typesAt (f.signature .params) κs) (Ises (typesAt (f.signature .params) κs)) x us → Seq (Go {0}) W (raw (toks 𝓤 A 2 κs qs) ∷ ‵ (owns (typesAt (f.signature .params) κs) x us) ∷ []) (prop (WpFn 𝓤 H C Λ code.function (flat (typesAt (f.signature .params) κs) us) (tripleOf 𝓤 H A f.signature (f.spec 𝓤 H A at-mem run) .post ((κs, qs, tt, x, us), tt))))
   walk are =
-      enter ! C Λ code.function _ _ $
-      alloc1 ! (λ l0. alloc1 ! (λ l1. alloc1 ! (λ l2. alloc1 ! (λ l3. alloc1 ! (λ l4. alloc1 ! (λ l5. alloc1 ! (λ l6. alloc0 ! $ params1 ! $
-      -- [the locals, the last one first; the tokens; what the parameters own]
-      pass1 ! (init ! 10 refl (tt, tt)) $ pass1 ! (init ! 8 refl (tt, tt)) $ pass0 ! $
-      assigns ! (addr ! (from ! (hop ! (look ! 10 refl) (stop !)))) (from ! (stop !)) (init ! 2 refl (tt, tt)) $
-      move ! (14 ∷ 15 ∷ []) $ calls-on ! fm 1 κs qs (owned-list (typesAt (callee.signature .params) (front 1 κs)) given given-vals) (out-own (last 1 κs) (x .1 .0)) (Callee 𝓤 H A at-mem run) met ((front 1 κs, front-share 1 qs, tt, given, given-vals), tt) (enters 𝓤 _)
-      (last-list (front 1 κs) (callee.signature .params) (callee.ended .kept) given) (λ r zs. callee.clauses 𝓤 H A at-mem run (front 1 κs) given .ensures tt r (atExit callee.ended (front 1 κs) given zs)) (λ w. id⊢ 𝓤 _)
-      (passes ! 5 refl (no-more !))
-      (λ r w zs fits. land ! (from ! (stop !)) (init ! 10 refl fits) $
-      -- [the report; the last token; `out`; the other tokens; the last values; what is ensured; the locals, the last one first]
-      assigns ! (addr ! (from ! (hop ! (look ! 14 refl) (stop !)))) (from ! (stop !)) (init ! 6 refl (tt, tt)) $
-      calls-put ! fm at-mem run put-met (last 1 κs) (last-share 1 qs) r w (x .1 .0) (passes ! 8 refl (passes ! 4 refl (no-more !)))
-      (λ v z same fits-unit. land ! (from ! (stop !)) (init ! 11 refl fits-unit) $
-      assigns ! (of-opd ! (unit-lit !)) (from ! (stop !)) (init ! 17 refl (tt, tt)) $ returns ! (look ! 17 refl) $
-      move ! (17 ∷ 18 ∷ 15 ∷ 16 ∷ 13 ∷ 14 ∷ 11 ∷ 12 ∷ 9 ∷ 10 ∷ 7 ∷ 8 ∷ 5 ∷ 6 ∷ []) $
-      frees ! $ frees ! $ frees ! $ frees ! $ frees ! $ frees ! $ frees ! $ free0 ! $
-      fins ! 1 κs qs (last-list (front 1 κs) (callee.signature .params) (callee.ended .kept) given zs) (out-last (x .1 .0) z) (callee.clauses 𝓤 H A at-mem run (front 1 κs) given .ensures tt r (atExit callee.ended (front 1 κs) given zs))
-      (lasts f.ended κs x) (λ ws. f.clauses 𝓤 H A at-mem run κs x .ensures tt tt (atExit f.ended κs x ws)) (zs .0, (z, tt)) (id⊢ 𝓤 _) (fact-mono 𝓤 _ _ (λ m. record { report = r; held = m; numbers = same })))))))))))
+      relay-walk ! C Λ fm 1 κs qs (owned-list (typesAt (callee.signature .params) (front 1 κs)) given given-vals) (x .1 .0) symbol.name (Callee 𝓤 H A at-mem run) met ((front 1 κs, front-share 1 qs, tt, given, given-vals), tt) (enters 𝓤 _)
+      (last-list (front 1 κs) (callee.signature .params) (callee.ended .kept) given) (λ r zs. callee.clauses 𝓤 H A at-mem run (front 1 κs) given .ensures tt r (atExit callee.ended (front 1 κs) given zs)) (λ w. id⊢ 𝓤 _) at-mem run put-symbol.name put-met
+      code.function (flat (typesAt (f.signature .params) κs) us) (tripleOf 𝓤 H A f.signature (f.spec 𝓤 H A at-mem run) .post ((κs, qs, tt, x, us), tt)) (x .0 .ptr .0) (x .0 .ptr .1) 5 L′.mir none (5 ∷ []) numbers-type (record { report = 4; lent = 6; out = 2; nothing = 3 }) refl
+      ((tt, tt), ((tt, tt), tt))
+      (λ bs. record { there = refl; room = refl; fits = (tt, tt); lends = tt })
+      (λ bs. record { operands = (refl, tt); report-room = refl; report-type = refl; out-there = λ w. refl; lent-room = λ w. refl; lent-fits = (tt, tt); both = λ w. (refl, (refl, tt)); nothing-room = λ w. refl; nothing-type = refl; result-room = λ w v. refl; result-type = refl })
+      (lasts f.ended κs x) (λ ws. f.clauses 𝓤 H A at-mem run κs x .ensures tt tt (atExit f.ended κs x ws)) (λ zs z. (zs .0, (z, tt))) (id⊢ 𝓤 _) (λ zs z. id⊢ 𝓤 _) (λ r zs z same. fact-mono 𝓤 _ _ (λ m. record { report = r; held = m; numbers = same }))
 
 pub i2c-get-errors-reset-spec : {M : Type 1} → stated.statement M
 unfolding code.routine

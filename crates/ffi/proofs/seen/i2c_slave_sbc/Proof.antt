@@ -1,5 +1,7 @@
 -- `ffi::seen::i2c_slave_sbc` meets its contract: a walk of its MIR, by hand. It hands a copy of the link and the other parameters on to `quiet::slave_sbc`, and the report and `out` to `flat::out::put` (`Relay.antt`, `Looks.antt`).
 -- All that the proof knows of either is that it meets its contract.
+use lib.ListN.{length}
+use mathlib.Core.Option.{some as held}
 use contract.Fact.{fact-mono}
 use contract.Lifetimes.{Lfts, Shares, toks}
 use denote.RattleType.{Denots, Valss, flat}
@@ -8,15 +10,13 @@ use denote.Signature.{typesAt}
 use denote.Ref.{shr-tells}
 use denote.Triple.Clauses.{atExit}
 use types.Kit.{Go, prop}
-use types.Run.{unit-lit, of-opd}
 use denote.Plain.{bool-vals, bool-tells, bool-lawful}
 use denote.Builtin.{u32}
 use denote.Slice.{slice-vals, shr-slice-tells, shr-slice-lawful, mut-slice-tells, mut-slice-lawful}
-use Rattle.nonblocking.proofs.Lending.{[], _∷_, refl, id⊢, URA, SProp, Memory, Routine, Heap, Calls, Loops, WpFn, Atoms, Fun, FmC, Given, Seq, ‵, raw, _$_, !, move, owns, ptr-vals, mut-tells, link-val, link-fits, named, tripleOf, Contract, Triple, lasts}
-use Rattle.nonblocking.proofs.Lending.{look, init, stop, hop, from, load, addr, and-then, no-more, assigns, land, returns, enter, alloc1, alloc0, params1, pass1, pass0, free0, agg, whole, sub, look-in, fld, givenOf}
-use Rattle.lent.proofs.Thin.{enters, passes, frees}
-use Rattle.ffi.proofs.Relay.{front, last, front-share, last-share, owned-list, last-list, Put, Numbers, out-own, out-last, calls-on, calls-put, relay-closes}
-use Rattle.ffi.proofs.Looks.{takes-link, shuts-link, gives-link, fins-link}
+use Rattle.nonblocking.proofs.Lending.{[], _∷_, refl, id⊢, URA, SProp, Memory, Routine, Heap, Calls, Loops, WpFn, Atoms, Fun, FmC, Given, Seq, ‵, raw, !, owns, ptr-vals, mut-tells, link-val, named, tripleOf, Contract, Triple, lasts, givenOf}
+use Rattle.lent.proofs.Thin.{others, enters}
+use Rattle.ffi.proofs.Relay.{front, front-share, owned-list, last-list, Put, Numbers, numbers-type, relay-closes}
+use Rattle.ffi.proofs.Looks.{look-walk}
 use Rattle.nonblocking.proofs.link.Link as L
 use Rattle.ffi.proofs.quiet.slave_sbc as callee
 use Rattle.ffi.proofs.quiet.slave_sbc.Symbol as symbol
@@ -48,30 +48,13 @@ module _ {M : Type 1} (𝓤 : URA M) (H : Heap 𝓤) (A : Atoms 𝓤) (W : Given
 
   walk : Are (typesAt (f.signature .params) κs) (Ises (typesAt (f.signature .params) κs)) x us → Seq (Go {0}) W (raw (toks 𝓤 A 4 κs qs) ∷ ‵ (owns (typesAt (f.signature .params) κs) x us) ∷ []) (prop (WpFn 𝓤 H C Λ code.function (flat (typesAt (f.signature .params) κs) us) (tripleOf 𝓤 H A f.signature (f.spec 𝓤 H A at-mem run) .post ((κs, qs, tt, x, us), tt))))
   walk are =
-      enter ! C Λ code.function _ _ $
-      alloc1 ! (λ l0. alloc1 ! (λ l1. alloc1 ! (λ l2. alloc1 ! (λ l3. alloc1 ! (λ l4. alloc1 ! (λ l5. alloc1 ! (λ l6. alloc1 ! (λ l7. alloc1 ! (λ l8. alloc1 ! (λ l9. alloc1 ! (λ l10. alloc1 ! (λ l11. alloc0 ! $ params1 ! $
-      -- [the locals, the last one first; the tokens; what the parameters own]
-      pass1 ! (init ! 20 refl (tt, tt)) $ pass1 ! (init ! 18 refl (bool-lawful 𝓤 H A W .typed (x .1 .0) _ (are .1 .0) .0)) $ pass1 ! (init ! 16 refl (shr-slice-lawful 𝓤 H A W (named 1) (κs .1 .0) u32 .typed (x .1 .1 .0) _ (are .1 .1 .0) .0)) $ pass1 ! (init ! 14 refl (mut-slice-lawful 𝓤 H A W (named 2) (κs .1 .1 .0) u32 .typed (x .1 .1 .1 .0) _ (are .1 .1 .1 .0) .0)) $ pass1 ! (init ! 12 refl (tt, tt)) $ pass0 ! $
-      move ! (24 ∷ 25 ∷ []) $ takes-link ! tt 3 κs qs (x .0) (λ q′ was.
-      -- [the link's cell; the open borrow; what the other parameters own; their tokens; the locals, the last one first]
-      assigns ! (of-opd ! (load ! (from ! (hop ! (look ! 24 refl) (stop !))) (look ! 0 refl))) (from ! (stop !)) (init ! 10 refl (link-fits 𝓤 H A W (x .0 .now) was)) $
-      shuts-link ! tt q′ (x .0 .now) (x .0 .ptr .0) (x .0 .ptr .1) was $ gives-link ! (x .0 .now) was $
-      -- [the tokens; what the callee and `out` own; the first token; the locals, the last one first]
-      assigns ! (addr ! (from ! (fld ! refl (hop ! (look-in ! 17 (sub ! 0 refl (whole !))) (stop !))))) (from ! (stop !)) (init ! 7 refl (tt, tt)) $
-      assigns ! (agg ! (and-then ! (load ! (from ! (stop !)) (look ! 7 refl)) (and-then ! (load ! (from ! (fld ! refl (stop !))) (look-in ! 17 (sub ! 1 refl (whole !)))) (no-more !)))) (from ! (stop !)) (init ! 5 refl (tt, (tt, (record { fits = are .1 .1 .1 .0 .0 .1 .0 }, tt)))) $
-      calls-on ! fm 2 (κs .1) (qs .1) (owned-list (typesAt (callee.signature .params) (front 2 (κs .1))) given given-vals) (out-own (last 2 (κs .1)) (x .1 .1 .1 .1 .0)) (Callee 𝓤 H A at-mem run) met ((front 2 (κs .1), front-share 2 (qs .1), tt, given, given-vals), tt) (enters 𝓤 _)
-      (last-list (front 2 (κs .1)) (callee.signature .params) (callee.ended .kept) given) (λ r zs. callee.clauses 𝓤 H A at-mem run (front 2 (κs .1)) given .ensures tt r (atExit callee.ended (front 2 (κs .1)) given zs)) (λ w. id⊢ 𝓤 _)
-      (passes ! 10 refl (passes ! 22 refl (passes ! 20 refl (passes ! 6 refl (no-more !)))))
-      (λ r w zs fits. land ! (from ! (stop !)) (init ! 15 refl fits) $
-      -- [the report; the last token; `out`; the other tokens; the last values; what is ensured; the locals, the last one first]
-      assigns ! (addr ! (from ! (hop ! (look ! 19 refl) (stop !)))) (from ! (stop !)) (init ! 7 refl (tt, tt)) $
-      calls-put ! fm at-mem run put-met (last 2 (κs .1)) (last-share 2 (qs .1)) r w (x .1 .1 .1 .1 .0) (passes ! 13 refl (passes ! 5 refl (no-more !)))
-      (λ v z same fits-unit. land ! (from ! (stop !)) (init ! 16 refl fits-unit) $
-      assigns ! (of-opd ! (unit-lit !)) (from ! (stop !)) (init ! 28 refl (tt, tt)) $ returns ! (look ! 28 refl) $
-      move ! (28 ∷ 29 ∷ 26 ∷ 27 ∷ 24 ∷ 25 ∷ 22 ∷ 23 ∷ 20 ∷ 21 ∷ 18 ∷ 19 ∷ 16 ∷ 17 ∷ 14 ∷ 15 ∷ 12 ∷ 13 ∷ 10 ∷ 11 ∷ 8 ∷ 9 ∷ 6 ∷ 7 ∷ []) $
-      frees ! $ frees ! $ frees ! $ frees ! $ frees ! $ frees ! $ frees ! $ frees ! $ frees ! $ frees ! $ frees ! $ frees ! $ free0 ! $
-      fins-link ! 2 κs qs (last-list (front 2 (κs .1)) (callee.signature .params) (callee.ended .kept) given zs) (out-last (x .1 .1 .1 .1 .0) z) (callee.clauses 𝓤 H A at-mem run (front 2 (κs .1)) given .ensures tt r (atExit callee.ended (front 2 (κs .1)) given zs))
-      (lasts f.ended κs x) (λ ws. f.clauses 𝓤 H A at-mem run κs x .ensures tt tt (atExit f.ended κs x ws)) (zs .0, (zs .1 .0, (zs .1 .1 .0, (zs .1 .1 .1 .0, (z, tt))))) (id⊢ 𝓤 _) (fact-mono 𝓤 _ _ (λ m. record { report = r; held = m; numbers = same })))))))))))))))))
+      look-walk ! C Λ fm 2 κs qs (x .0) (owned-list (typesAt (others (callee.signature .params)) (front 2 (κs .1))) (given .1) (given-vals .1)) (x .1 .1 .1 .1 .0) symbol.name (Callee 𝓤 H A at-mem run) met ((front 2 (κs .1), front-share 2 (qs .1), tt, given, given-vals), tt) (enters 𝓤 _)
+      (last-list (front 2 (κs .1)) (callee.signature .params) (callee.ended .kept) given) (λ r zs. callee.clauses 𝓤 H A at-mem run (front 2 (κs .1)) given .ensures tt r (atExit callee.ended (front 2 (κs .1)) given zs)) (λ w. id⊢ 𝓤 _) at-mem run put-symbol.name put-met
+      code.function (flat (typesAt (f.signature .params) κs) us) (tripleOf 𝓤 H A f.signature (f.spec 𝓤 H A at-mem run) .post ((κs, qs, tt, x, us), tt)) 8 (held (record { from-local = 4; to-local = 9; lifetime = named 2; ptr = x .1 .1 .1 .0 .ptr; len = length (x .1 .1 .1 .0 .now) })) (8 ∷ 2 ∷ 3 ∷ 10 ∷ []) numbers-type (record { report = 7; lent = 11; out = 5; nothing = 6 }) refl
+      ((tt, tt), (bool-lawful 𝓤 H A W .typed (x .1 .0) _ (are .1 .0) .0, (shr-slice-lawful 𝓤 H A W (named 1) (κs .1 .0) u32 .typed (x .1 .1 .0) _ (are .1 .1 .0) .0, (mut-slice-lawful 𝓤 H A W (named 2) (κs .1 .1 .0) u32 .typed (x .1 .1 .1 .0) _ (are .1 .1 .1 .0) .0, ((tt, tt), tt)))))
+      (λ bs. record { there = refl; room = refl; is-link = refl; lends = record { is-slice = refl; holds = refl; room = refl; fits = (tt, tt); points = refl; holds-still = refl; next-room = refl; next-fits = (tt, (tt, (record { fits = are .1 .1 .1 .0 .0 .1 .0 }, tt))) } })
+      (λ bs. record { operands = (refl, (refl, (refl, (refl, tt)))); report-room = refl; report-type = refl; out-there = λ w. refl; lent-room = λ w. refl; lent-fits = (tt, tt); both = λ w. (refl, (refl, tt)); nothing-room = λ w. refl; nothing-type = refl; result-room = λ w v. refl; result-type = refl })
+      (lasts f.ended κs x) (λ ws. f.clauses 𝓤 H A at-mem run κs x .ensures tt tt (atExit f.ended κs x ws)) (λ zs z. (zs .0, (zs .1 .0, (zs .1 .1 .0, (zs .1 .1 .1 .0, (z, tt)))))) (id⊢ 𝓤 _) (λ zs z. id⊢ 𝓤 _) (λ r zs z same. fact-mono 𝓤 _ _ (λ m. record { report = r; held = m; numbers = same }))
 
 pub i2c-slave-sbc-spec : {M : Type 1} → stated.statement M
 unfolding code.routine
