@@ -8,7 +8,7 @@ use blocking::master;
 use blocking::run::run;
 use blocking::slave;
 use flat::leave;
-use kept::take_up;
+use numbered::call::take_up;
 
 #[no_mangle]
 pub extern "C" fn i2c_blocking_write(

@@ -1,11 +1,9 @@
--- A configuration as ten numbers, and an event as one. Every number is taken.
+-- A configuration as ten numbers. Every number is taken.
 use Prim.Native.Nat.{ℕ, _%_}
 use mathlib.Core.Bool.{cond}
 use mathlib.Core.List.{List, [], _∷_}
 use lib.Dec.{ltb}
 use lib.ListN.{getD}
-use Rattle.never_wait.specs.declared.Event.{Event}
-use Rattle.never_wait.specs.declared.Event.the-variants.{AddressMatch, Rxne}
 use Rattle.config.specs.declared.Config.{Config}
 use Rattle.config.specs.declared.Setting.{Setting}
 use Rattle.config.specs.declared.Setting.the-variants.{Unset, Set}
@@ -35,7 +33,3 @@ configOf xs = record {
   «slave_address_2» = getD xs 8 0 % 256;
   «slave_address_mask» = maskOf (getD xs 9 0);
 }
-
--- 0: an address match; every other number: a byte received
-abbrev pub eventOf : ℕ → Event
-eventOf n = cond (ltb 0 n) Rxne AddressMatch

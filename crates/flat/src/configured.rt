@@ -1,8 +1,7 @@
-// A configuration as ten numbers, and an event as one. Every number is taken.
+// A configuration as ten numbers. Every number is taken.
 ghost use mathlib.Core.Path.{_≡_};
 ghost use lib.Dec.{ltb};
-ghost use Rattle.flat.specs.Configured.{settingOf, maskOf, configOf, eventOf};
-use blocking::Event;
+ghost use Rattle.flat.specs.Configured.{settingOf, maskOf, configOf};
 use config::Config;
 use config::Setting;
 use config::SlaveAddressMask;
@@ -23,15 +22,6 @@ pub fn config_of(numbers: &[u32; 10]) -> Config
         slave_address_2: (numbers[8] % 256) as u8,
         slave_address_mask: mask,
     }
-}
-
-pub fn event_of(number: u8) -> Event
-    ensures { λ r. ⌜ r ≡ eventOf number ⌝ }
-{
-    if 0 < number {
-        return Event::Rxne;
-    }
-    Event::AddressMatch
 }
 
 fn setting_of(on: u32, value: u32) -> Setting

@@ -1,9 +1,9 @@
 // An answer as six numbers: its own number, the words taken, the places logged, and its values, 0 where it has fewer than three.
 ghost use mathlib.Core.Path.{_≡_};
-ghost use mathlib.Core.List.{[], _∷_};
 ghost use Rattle.flat.specs.Out.{flat};
 use access::Report;
 use answers::Answer;
+use six::fill;
 
 pub fn put(report: Report, out: &mut [u64; 6])
     ensures { λ _. ⌜ now (out .exit) ≡ flat report ⌝ }
@@ -172,25 +172,4 @@ pub fn put_ran(report: Report, out: &mut [u64; 6])
         ),
         _ => put(report, out),
     }
-}
-
-fn fill(
-    out: &mut [u64; 6],
-    number: usize,
-    taken: usize,
-    logged: usize,
-    first: usize,
-    second: usize,
-    third: usize,
-)
-    ensures { λ _. ⌜ now (out .exit) ≡ number ∷ taken ∷ logged ∷ first ∷ second ∷ third ∷ [] ⌝ }
-{
-    *out = [
-        number as u64,
-        taken as u64,
-        logged as u64,
-        first as u64,
-        second as u64,
-        third as u64,
-    ];
 }

@@ -1,7 +1,7 @@
 // A parked call as seven numbers, which a caller keeps until it resumes the call.
 ghost use mathlib.Core.Path.{_≡_};
 ghost use mathlib.Core.List.{[], _∷_};
-ghost use Rattle.kept.specs.Kept.{kindNumber, openingNumber, endNumber, phaseNumber, openingWord, endWord, phaseWord, kindOf, phaseOf, laid, callOf, KeptCall};
+ghost use Rattle.kept.specs.Kept.{kindNumber, openingNumber, endNumber, phaseNumber, openingWord, endWord, phaseWord, laid, KeptCall};
 use parked::End;
 use parked::Kind;
 use parked::Opening;
@@ -27,27 +27,6 @@ pub fn lay(call: Parked, kept: &mut [u64; 7])
         phase_word(phase),
         call.count as u64,
     ];
-}
-
-pub fn take_up(
-    kind: u64,
-    address: u64,
-    send: u64,
-    receive: u64,
-    phase: u64,
-    word: u64,
-    count: u64,
-) -> Parked
-    ensures { λ r. ⌜ r ≡ callOf kind address send receive phase word count ⌝ }
-{
-    Parked {
-        kind: kind_of(kind),
-        address: (address % 256) as u8,
-        send: send as usize,
-        receive: receive as usize,
-        phase: phase_of(phase, (word % 4294967296) as u32),
-        count: count as usize,
-    }
 }
 
 fn kind_number(kind: Kind) -> u64
@@ -170,57 +149,5 @@ fn phase_word(phase: Phase) -> u64
         Phase::Listen => 0,
         Phase::Code => 0,
         Phase::Ended(end) => end_word(end),
-    }
-}
-
-fn kind_of(number: u64) -> Kind
-    ensures { λ r. ⌜ r ≡ kindOf number ⌝ }
-{
-    match number {
-        0 => Kind::Write,
-        1 => Kind::Read,
-        2 => Kind::WriteRead,
-        3 => Kind::ReadBack,
-        4 => Kind::SlaveWrite,
-        5 => Kind::SlaveRead,
-        _ => Kind::SlaveWaitAddressed,
-    }
-}
-
-fn phase_of(number: u64, word: u32) -> Phase
-    ensures { λ r. ⌜ r ≡ phaseOf number word ⌝ }
-{
-    match number {
-        0 => Phase::Open(Opening::Start),
-        1 => Phase::Open(Opening::Drain),
-        2 => Phase::Open(Opening::Modify),
-        3 => Phase::Open(Opening::Setup(word)),
-        4 => Phase::Open(Opening::Flush),
-        5 => Phase::Open(Opening::Release),
-        6 => Phase::Open(Opening::Probe),
-        7 => Phase::Open(Opening::Drop),
-        8 => Phase::Wait,
-        9 => Phase::Transfer,
-        10 => Phase::Restart,
-        11 => Phase::Stretched,
-        12 => Phase::Refuse(word),
-        13 => Phase::ClearBerr,
-        14 => Phase::ClearArlo,
-        15 => Phase::ClearNackf,
-        16 => Phase::ClearStopf,
-        17 => Phase::FlushTxis,
-        18 => Phase::FlushDummy,
-        19 => Phase::FlushTxe,
-        20 => Phase::FlushEmpty,
-        21 => Phase::Listen,
-        22 => Phase::Code,
-        23 => Phase::Ended(End::OutOfWords),
-        24 => Phase::Ended(End::LogFull),
-        25 => Phase::Ended(End::BadLength),
-        26 => Phase::Ended(End::Berr),
-        27 => Phase::Ended(End::Arlo),
-        28 => Phase::Ended(End::Addr),
-        29 => Phase::Ended(End::Stopf),
-        _ => Phase::Ended(End::Addressed(word)),
     }
 }

@@ -1,11 +1,11 @@
--- `kept::phase_of` meets its contract: each arm returns the phase of its number, and a number above the last is past the list.
+-- `numbered::call::phase_of` meets its contract: each arm returns the phase of its number, and a number above the last is past the list.
 use borrow.Author.Needs.{needs}
 use mathlib.Core.Path.{sym}
 use lib.ListN.{List·getD-eq-default}
 use Rattle.kept.specs.Kept.{phases}
 use Rattle.kept.proofs.Past.{past}
-use Rattle.kept.proofs.phase_of.Statement.{statement}
-use Rattle.kept.proofs.phase_of.Tie as tie
+use Rattle.numbered.proofs.call.phase_of.Statement.{statement}
+use Rattle.numbered.proofs.call.phase_of.Tie as tie
 
 pub phase-of-spec : {M : Type 1} → statement M
 phase-of-spec =

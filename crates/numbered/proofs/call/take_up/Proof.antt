@@ -1,7 +1,7 @@
--- `kept::take_up` meets its contract: the kind and the phase are those that its callees return.
+-- `numbered::call::take_up` meets its contract: the kind and the phase are those that its callees return.
 use borrow.Author.Needs.{needs}
-use Rattle.kept.proofs.take_up.Statement.{statement}
-use Rattle.kept.proofs.take_up.Tie as tie
+use Rattle.numbered.proofs.call.take_up.Statement.{statement}
+use Rattle.numbered.proofs.call.take_up.Tie as tie
 
 pub take-up-spec : {M : Type 1} → statement M
 take-up-spec =

@@ -1,11 +1,11 @@
--- `kept::kind_of` meets its contract: each arm returns the kind of its number, and a number above the last is past the list.
+-- `numbered::call::kind_of` meets its contract: each arm returns the kind of its number, and a number above the last is past the list.
 use borrow.Author.Needs.{needs}
 use mathlib.Core.Path.{sym}
 use lib.ListN.{List·getD-eq-default}
 use Rattle.kept.specs.Kept.{kinds}
 use Rattle.kept.proofs.Past.{past}
-use Rattle.kept.proofs.kind_of.Statement.{statement}
-use Rattle.kept.proofs.kind_of.Tie as tie
+use Rattle.numbered.proofs.call.kind_of.Statement.{statement}
+use Rattle.numbered.proofs.call.kind_of.Tie as tie
 
 pub kind-of-spec : {M : Type 1} → statement M
 kind-of-spec =

@@ -1,0 +1,3 @@
+// What C hands in by number: a parked call, and an event.
+pub mod call;
+pub mod event;
