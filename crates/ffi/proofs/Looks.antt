@@ -11,12 +11,11 @@ use mathlib.Core.Option.{Option, none}
 use mir.Syntax.{seq, assign, place, copy, rvOpd, deref}
 use mir.Val.{vunit}
 use base.Logic.{ex}
-use base.Fml.{fsep, fshr-bor}
+use base.Fml.{fsep}
 use contract.Lifetimes.{Lfts, Shares, toks}
 use prog.Wp.{spotOf}
 use types.Kit.{prop, runs, atRet, mean, suffices, show, updating, use2, now as at-once}
 use types.Run.{of-opd, look}
-use denote.RattleType.{RattleType}
 use denote.Builtin.{unit}
 use denote.Memory.{cellAt, partAt}
 use denote.Plain.{nothing-makes}

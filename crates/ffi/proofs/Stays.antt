@@ -9,7 +9,7 @@ use Rattle.access.specs.Access.{reads, entries}
 use Rattle.access.specs.declared.Report.{Report}
 use Rattle.ending.specs.Call.{Step}
 use Rattle.ending.specs.Link.{Link, impossible}
-use Rattle.ending.specs.Outcome.{Outcome, outcome, planAt, settle, Matches}
+use Rattle.ending.specs.Outcome.{outcome, planAt, settle, Matches}
 use Rattle.ending.specs.Plan.{Plan}
 
 kept : (impossible enough fits : Bool) (p : Plan) (l : Link) → p .link ≡ l → settle impossible enough fits p l .link ≡ l

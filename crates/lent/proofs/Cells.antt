@@ -2,12 +2,11 @@
 --     cells E xs       the locals of the frame E: the i-th holds the i-th entry of xs, or is room where that is `none` or missing
 --     Has E xs k v     local k holds v;   Free E xs k: it is room;   put-in xs k v: it holds v from now on
 --     starts           a function is entered: its locals are allocated, and its parameters stored
---     reads-in         a local, or a field of one, is read;   sets: a local that was room is set
+--     reads-it         a local is read;   sets: a local that was room is set;   lands-in: it gets the result of a call
 --     hands            locals are the operands of a call
 --     points-all       consecutive locals are set to the addresses of the fields behind a reference
 --     lends-again      a local is set to the pointer of a slice, and the next to the slice itself: a `&mut [T]` that is handed on
---     lends-on         a local is set to a reference's pointer: a `&mut T` that is handed on
---     frees-all        the locals are freed, whatever they hold
+--     returns-it, frees-all      the function returns its first local;   the locals are freed, whatever they hold
 use Prim.Native.Nat.{suc, zero, _+_}
 use lib.Dec.{T}
 use mathlib.Core.Option.{Option, none, some as held}
@@ -18,12 +17,12 @@ use base.Fml.{fsep, froom, fdies}
 use prog.Memory.{fieldOf, fieldAt}
 use prog.Wp.{spotOf}
 use types.Kit.{mean, nth, del, put, pull, fill, ⋆, prop, runs, allocs, passes, params′, frees as freed, atRet, assume, each}
-use types.Run.{Opds, Reads, Writes, Rv, Finds}
+use types.Run.{Opds, Reads, Writes, Rv}
 use types.Part.{Part, given-back, sub, agg}
 use denote.Slice.{sliceVal}
 use mir.Fields.{getV}
 use mir.Val.{Vals, vstruct}
-use Rattle.nonblocking.proofs.Lending.{_≡_, refl, sym, ap, subst, ℕ, List, [], _∷_, URA, Val, vptr, hasTy, WT, SProp, ent, sep, via, Fml, ftrue, fat, Ty, Fn, Place, Code, Heap, Atoms, sem, Calls, Loops, Frame, WpFn}
+use Rattle.nonblocking.proofs.Lending.{_≡_, refl, sym, ap, subst, ℕ, List, [], _∷_, URA, Val, vptr, hasTy, WT, SProp, ent, sep, via, Fml, ftrue, fat, Ty, Fn, Code, Heap, Atoms, sem, Calls, Loops, Frame, WpFn}
 use Rattle.nonblocking.proofs.Lending.{Given, Item, ‵, raw, _⊛_, _$_, _∵_, !, qed, move, drop, use1, use2, split, fsplit, fjoin, frame, done, Goal, lands, Post, Seq, Step, step, hop, fld, stop, from, load, addr, and-then, no-more, assigns, land, returns, look-in, init, forget, enter, alloc1, alloc0, params1, pass1, pass0, free1, free0, nothing}
 
 -- ---- what is in a local

@@ -1,5 +1,4 @@
 -- `numbered::call::phase_of` meets its contract: each arm returns the phase of its number, and a number above the last is past the list.
-use borrow.Author.Needs.{needs}
 use mathlib.Core.Path.{sym}
 use lib.ListN.{List·getD-eq-default}
 use Rattle.kept.specs.Kept.{phases}

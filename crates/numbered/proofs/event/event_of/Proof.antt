@@ -1,5 +1,4 @@
 -- `numbered::event::event_of` meets its contract: the test of the code is the test of the definition.
-use borrow.Author.Needs.{needs}
 use borrow.Author.Tests.{lt-ltb, le-ltb}
 use Rattle.numbered.proofs.event.event_of.Statement.{statement}
 use Rattle.numbered.proofs.event.event_of.Tie as tie
