@@ -16,14 +16,17 @@ use Rattle.phases.specs.declared.Phase.the-variants.{Ended}
 use Rattle.parked.specs.declared.Parked.{Parked}
 use Rattle.phases.specs.declared.Kind.{Kind}
 use Rattle.runs.specs.declared.Ran.{Ran}
-use Rattle.blocking.specs.declared.Turn.{Turn}
-use Rattle.blocking.specs.declared.Turn.the-variants.{Again, Found, Over}
-use Rattle.blocking.specs.declared.Progress.{Progress}
+use Rattle.stretches.specs.declared.Turn.{Turn}
+use Rattle.stretches.specs.declared.Turn.the-variants.{Again, Found, Over}
+use Rattle.stretches.specs.declared.Progress.{Progress}
 use Rattle.parked.specs.After.{answer}
 use Rattle.parked.specs.Refusals.{begun, refused}
 use Rattle.phases.specs.Lengths.{lengths}
 use Rattle.runs.specs.Run.{Outcome, stopped, joined, kept, runs, outcome, called, Whole}
-use Rattle.blocking.specs.Steps.{Answered, Told, Ends, Going, Turned, Forward, Carried, Finished}
+use Rattle.stretches.specs.Stretches.{Going, Carried}
+use Rattle.stretches.proofs.Carries.{carried-on}
+use Rattle.blocking.specs.Steps.{Answered, Told, Ends, Turned, Forward, Finished}
+use Rattle.courses.specs.Courses.{Stands, Follows, fresh}
 use Rattle.parked.proofs.Phases.{wants-at}
 use Rattle.runs.proofs.OneAccess.{joined-none, joined-joined, run-over}
 
@@ -176,9 +179,6 @@ part-fits r t ws h k =
     omega (arith, length-drop t ws)
 
 module _ {s ws log₀ b₀ : List ℕ} {p₀ : Progress} where
-  pub carried-none : p₀ .taken ≤ length ws → p₀ .logged ≤ length log₀ → Carried s ws log₀ b₀ p₀ log₀ b₀ p₀
-  carried-none h k = record { words = h; room = k; long = refl; wide = refl; more = omega arith; going = λ start q a e g. g }
-
   pub carried-step : {log b log′ b′ : List ℕ} {p r : Progress} → Carried s ws log₀ b₀ p₀ log b p → Forward s ws log b p r log′ b′
       → length log′ ≡ length log → length b′ ≡ length b → Carried s ws log₀ b₀ p₀ log′ b′ r
   carried-step c f e k = record {
@@ -188,16 +188,6 @@ module _ {s ws log₀ b₀ : List ℕ} {p₀ : Progress} where
     wide = k ∙ c .wide;
     more = omega (arith, f .more, c .more);
     going = λ start q a h g. f .going start q a (h ∙ sym (c .long)) (c .going start q a h g);
-  }
-
-  pub carried-on : {log b log′ b′ : List ℕ} {p r : Progress} → Carried s ws log₀ b₀ p₀ log b p → Carried s ws log b p log′ b′ r → Carried s ws log₀ b₀ p₀ log′ b′ r
-  carried-on c d = record {
-    words = d .words;
-    room = d .room;
-    long = d .long ∙ c .long;
-    wide = d .wide ∙ c .wide;
-    more = omega (arith, c .more, d .more);
-    going = λ start q a h g. d .going start q a (h ∙ sym (c .long)) (c .going start q a h g);
   }
 
   -- an access makes the log that is left shorter
@@ -212,15 +202,17 @@ ended {s} {ws} {log₀} {b₀} {p₀} {log} {b} {log′} {b′} {p} {r} {q} c f 
     let d = carried-step c f e k in
     record { whole = λ start p₁ b₁ n g. finish s ws start p₁ b₁ log′ r b′ (length log) a q (d .room) (c .long ∙ sym n) e (d .going start p₁ b₁ n g) (no-more f a h) o }
 
--- a stretch, and then the rest
-pub finished-on : {s ws log₀ b₀ : List ℕ} {p₀ : Progress} {log b log′ b′ : List ℕ} {p : Progress} {r : Ran}
-    → Carried s ws log₀ b₀ p₀ log b p → Finished s ws log b p r log′ b′ → Finished s ws log₀ b₀ p₀ r log′ b′
-finished-on c f = record { whole = λ start p₁ b₁ n g. f .whole start p₁ b₁ (n ∙ sym (c .long)) (c .going start p₁ b₁ n g) }
+-- the whole run: what follows plainly, and then the rest of it
+pub whole-run : {s ws log b : List ℕ} {p : Parked} {log₁ b₁ : List ℕ} {q : Progress} {r : Ran} {log′ b′ : List ℕ}
+    → Follows s ws log b (fresh p) log₁ b₁ q → Finished s ws log₁ b₁ q r log′ b′ → Whole (runs s (length log / 2) p b ws) log r log′ b′
+whole-run {s} {ws} {log} {b} {p} k f = f .whole log p b (sym (k .carried .long)) (k .carried .going log p b refl (going-none s ws log p b))
 
--- the whole run
-pub whole-run : {s ws log b : List ℕ} {p : Parked} {u : Turn} {r : Ran} {log′ b′ : List ℕ}
-    → Finished s ws log b (record { turn = u; parked = p; taken = 0; logged = 0 }) r log′ b′ → Whole (runs s (length log / 2) p b ws) log r log′ b′
-whole-run {s} {ws} {log} {b} {p} f = f .whole log p b refl (going-none s ws log p b)
+-- the same where what follows plainly ends the call
+pub whole-over : {s ws log b : List ℕ} {p : Parked} {log′ b′ : List ℕ} {q : Progress} {r : Ran} → Follows s ws log b (fresh p) log′ b′ q → (e : End) → q .turn ≡ Over e → Answered q e r
+    → Whole (runs s (length log / 2) p b ws) log r log′ b′
+whole-over {s} {ws} {log} {b} {p} {log′} {b′} {q} {r} k e t a =
+    let stands : Stands (Over e) s ws (q .parked) (q .taken) b′ = subst (λ (u : Turn). Stands u s ws (q .parked) (q .taken) b′) t (k .stands) in
+    finish s ws log p b log′ q b′ (length log) e r (k .carried .room) refl (k .carried .long) (k .carried .going log p b refl (going-none s ws log p b)) (stands _) a
 
 module _ (k : Kind) (address : ℕ) (s b ws : List ℕ) (n : ℕ) where
   pub call-good : lengths k (length s) (length b) ≡ true → called k address s n b ws ≡ outcome s n (begun k address (length s) (length b)) b ws

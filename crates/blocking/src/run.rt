@@ -2,18 +2,18 @@
 ghost use Prim.Native.Nat.{_≤_};
 ghost use mathlib.Core.Path.{_≡_};
 ghost use lib.ListN.{length};
-ghost use Rattle.runs.specs.Run.{outcome, called, resumed, room, Whole};
+ghost use Rattle.runs.specs.Run.{runs, outcome, called, resumed, room, Whole};
 ghost use Rattle.blocking.specs.Steps.{Answered, Forward, Finished};
-use crate::Progress;
-use crate::Turn;
-use crate::course::course;
 use crate::step::advance;
 use answers::Answer;
+use courses::course::follow;
 use parked::End;
 use parked::Kind;
 use parked::Parked;
 use parked::Phase;
 use runs::Ran;
+use stretches::Progress;
+use stretches::Turn;
 
 // One access of a run, over the words from the first one not taken and the log from its first free place.
 fn forward(p: Progress, send: &[u8], receive: &mut [u8], words: &[u32], log: &mut [u32]) -> Progress
@@ -34,28 +34,21 @@ fn forward(p: Progress, send: &[u8], receive: &mut [u8], words: &[u32], log: &mu
     }
 }
 
-impl Progress {
-    fn answered(self, end: End) -> Ran
-        ensures { λ r. ⌜ Answered self end r ⌝ }
-    {
-        let parked = self.parked;
-        Ran {
-            answer: parked.answer(end),
-            parked,
-            taken: self.taken,
-            logged: self.logged,
-        }
+// What a run returns where no access follows.
+fn answered(p: Progress, end: End) -> Ran
+    ensures { λ r. ⌜ Answered p end r ⌝ }
+{
+    let parked = p.parked;
+    Ran {
+        answer: parked.answer(end),
+        parked,
+        taken: p.taken,
+        logged: p.logged,
     }
 }
 
 // The rest of a run: until the call is over, or the words or the log end.
-pub(crate) fn transfer(
-    from: Progress,
-    send: &[u8],
-    receive: &mut [u8],
-    words: &[u32],
-    log: &mut [u32],
-) -> Ran
+fn transfer(from: Progress, send: &[u8], receive: &mut [u8], words: &[u32], log: &mut [u32]) -> Ran
     requires { ⌜ (from .taken ≤ length (now words)) × (from .logged ≤ length (now log)) ⌝ }
     ensures { λ r. ⌜ Finished (now (send .entry)) (now (words .entry)) (now (log .entry)) (now (receive .entry)) from r (now (log .exit)) (now (receive .exit)) ⌝ }
 {
@@ -68,18 +61,30 @@ pub(crate) fn transfer(
             match turn {
                 Turn::Again => {}
                 Turn::Found => break,
-                Turn::Over(end) => break 'transfer p.answered(end),
+                Turn::Over(end) => break 'transfer answered(p, end),
             }
         }
         // The byte goes out or comes in.
         p = forward(p, send, receive, words, log);
         let turn = p.turn;
         match turn {
-            Turn::Over(end) => break 'transfer p.answered(end),
+            Turn::Over(end) => break 'transfer answered(p, end),
             Turn::Again => {}
             Turn::Found => {}
         }
     }
+}
+
+// The whole run of a call that is not wrong: as far as it follows plainly, and then whatever else comes.
+fn course(call: Parked, send: &[u8], receive: &mut [u8], words: &[u32], log: &mut [u32]) -> Ran
+    ensures { λ r. ⌜ Whole (runs (now (send .entry)) (room (now (log .entry))) call (now (receive .entry)) (now (words .entry))) (now (log .entry)) r (now (log .exit)) (now (receive .exit)) ⌝ }
+{
+    let p = follow(call, send, receive, words, log);
+    let turn = p.turn;
+    if let Turn::Over(end) = turn {
+        return answered(p, end);
+    }
+    transfer(p, send, receive, words, log)
 }
 
 fn refused(call: Parked, answer: Answer) -> Ran

@@ -1,14 +1,14 @@
 // One access of a run, over the words and the log that are left.
 ghost use mathlib.Core.Path.{_≡_};
 ghost use Rattle.blocking.specs.Steps.{Told, Turned};
-use crate::Progress;
-use crate::Turn;
 use parked::End;
 use parked::Next;
 use parked::Parked;
 use parked::Phase;
 use runs::byte_at;
 use runs::keep_byte;
+use stretches::Progress;
+use stretches::Turn;
 
 fn turn(call: Parked) -> Turn
     ensures { λ r. ⌜ Told r call ⌝ }

@@ -29,4 +29,4 @@ returns-2 c =
     (record { answer = refl; parked = refl; taken = refl; logged = refl; entries = refl; buffer = refl })
 
 pub begin-spec : {M : Type 1} → statement M
-begin-spec = tie.close (tie.spec (λ c κs. tt) (λ c κs. tt) (λ c κs. (refl, refl)) (λ c. search needs) (λ c. search needs) returns (λ c κs. tt) returns-2)
+begin-spec = tie.close (tie.spec (λ c κs. tt) (λ c κs. tt) (λ c κs. tt) (λ c. search needs) (λ c. search needs) returns (λ c κs. tt) returns-2)

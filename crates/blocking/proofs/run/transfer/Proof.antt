@@ -4,8 +4,9 @@ use Prim.Native.Nat.{ℕ, _+_, _-_, _≤_, zero-le}
 use native.Mathlib.Omega.{arith}
 use lib.ListN.{length}
 use borrow.Author.Needs.{needs}
-use Rattle.blocking.proofs.Stretches.{carried-none, carried-step, carried-on, shorter, ended, more-again, more-found}
-use Rattle.blocking.specs.Steps.{Carried}
+use Rattle.stretches.proofs.Carries.{carried-none, carried-on}
+use Rattle.blocking.proofs.Stretches.{carried-step, shorter, ended, more-again, more-found}
+use Rattle.stretches.specs.Stretches.{Carried}
 use Rattle.blocking.proofs.run.transfer.Statement.{statement}
 use Rattle.blocking.proofs.run.transfer.Tie as tie
 

@@ -1,0 +1,17 @@
+-- `blocking::run::course` meets its contract.
+use Rattle.blocking.proofs.Stretches.{whole-run, whole-over}
+use borrow.Author.Needs.{needs}
+use Rattle.blocking.proofs.run.course.Statement.{statement}
+use Rattle.blocking.proofs.run.course.Tie as tie
+
+returns : tie.Need-returns
+returns c = whole-over (c .before .before .before .before .before .before .before .before .follow .ensures) _ (c .before .before .turn .given .1) (c .answered .ensures)
+
+transfer-requires : tie.Need-transfer-requires
+transfer-requires c κs = let k = c .before .before .before .before .before .before .before .follow .ensures .carried in (k .words, k .room)
+
+returns-2 : tie.Need-returns-2
+returns-2 c = whole-run (c .before .before .before .before .before .before .before .before .before .before .before .before .follow .ensures) (c .before .before .before .before .transfer .ensures)
+
+pub course-spec : {M : Type 1} → statement M
+course-spec = tie.close (tie.spec (λ c κs. tt) (λ c. search needs) (λ c κs. search needs) (λ c. search needs) (λ c. search needs) returns transfer-requires (λ c. search needs) (λ c. search needs) returns-2)

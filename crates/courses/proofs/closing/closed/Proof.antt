@@ -1,0 +1,11 @@
+-- `courses::closing::closed` meets its contract.
+use mathlib.Core.Path.{_≡_, refl, sym, ap, _∙_}
+use borrow.Author.Needs.{needs}
+use Rattle.courses.proofs.closing.closed.Statement.{statement}
+use Rattle.courses.proofs.closing.closed.Tie as tie
+
+returns : tie.Need-returns
+returns c = rw (c .before .turn-of .ensures, c .phase-of .ensures)
+
+pub closed-spec : {M : Type 1} → statement M
+closed-spec = tie.close (tie.spec (λ c κs. tt) (λ c κs. tt) returns)

@@ -1,0 +1,11 @@
+-- `courses::opening::open_read` meets its contract.
+use mathlib.Core.Path.{_≡_, refl, sym, ap, _∙_}
+use borrow.Author.Needs.{needs}
+use Rattle.courses.proofs.opening.open_read.Statement.{statement}
+use Rattle.courses.proofs.opening.open_read.Tie as tie
+
+returns : tie.Need-returns
+returns c = rw (c .before .before .before .before .before .started .ensures, c .before .before .before .before .before .before .sadd8 .ensures) at (c .before .before .put-at .ensures)
+
+pub open-read-spec : {M : Type 1} → statement M
+open-read-spec = tie.close (tie.spec (λ c κs. tt) (λ c κs. tt) (λ c. search needs) (λ c κs. tt) (λ c. search needs) returns)

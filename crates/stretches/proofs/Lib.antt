@@ -1,0 +1,4 @@
+pub mod Accesses
+pub mod Carries
+pub mod Moves
+pub mod Puts
