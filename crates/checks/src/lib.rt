@@ -15,15 +15,15 @@ use access::word_at;
 use answers::Answer;
 use flags::Flag;
 use flags::Isr;
-use starts::impossible;
+use openings::impossible;
 use steps::addressed::on_addr;
 use steps::frame::on_tc;
 use steps::frame::on_tcr;
 use steps::on_arlo;
 use steps::on_berr;
 use steps::on_nackf;
+use steps::received::on_rxne;
 use transfer::on_nothing;
-use transfer::on_rxne;
 use transfer::on_stopf;
 use transfer::on_txis;
 

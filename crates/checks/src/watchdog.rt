@@ -10,8 +10,8 @@ use access::Report;
 use access::accessed;
 use access::refused;
 use answers::Answer;
+use openings::impossible;
 use registers::cr1::Cr1;
-use starts::impossible;
 use transfer::one_more;
 
 // `execute_watchdog` over a link's fields, lent one by one.

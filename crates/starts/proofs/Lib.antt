@@ -1,3 +1,2 @@
+pub mod Accepted
 pub mod Laid
-pub mod NoWord
-pub mod Stored

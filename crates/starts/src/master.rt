@@ -10,14 +10,13 @@ ghost use Rattle.ending.specs.Plan.{writeStart, readStart};
 ghost use Rattle.ending.specs.Outcome.{settled, Matches};
 use crate::bytes::clear;
 use crate::bytes::copy_in;
-use crate::good_length;
-use crate::impossible;
 use access::Report;
-use access::accessed;
 use access::refused;
 use answers::Answer;
-use registers::cr2::Cr2;
-use registers::data::Rxdr;
+use openings::good_length;
+use openings::impossible;
+use openings::read_opened;
+use openings::write_opened;
 
 // A write over a link's fields, lent one by one. Without `autoend` a read of `read_len` bytes follows it.
 pub fn write_fields(
@@ -42,57 +41,18 @@ pub fn write_fields(
     if impossible(*index, *length, *length_write_read, *watchdog) {
         return refused(Answer::ImpossibleLink);
     }
-    if words.len() < 1 {
-        return refused(Answer::OutOfWords);
+    let n = bytes.len();
+    let report = write_opened(addr, n, good_length(bytes), autoend, words, log);
+    if report.taken != 2 {
+        return report;
     }
-    // Check if the bus is free.
-    if Cr2::starting(words[0]) {
-        return looked(Answer::Pending, words, log);
-    }
-    if good_length(bytes) {
-        if words.len() < 2 {
-            return refused(Answer::OutOfWords);
-        }
-        if log.len() < 6 {
-            return refused(Answer::LogFull);
-        }
-        log[0] = Cr2::READ;
-        log[1] = words[0];
-        log[2] = Cr2::READ;
-        let cr2 = words[1];
-        log[3] = cr2;
-        log[4] = Cr2::WRITE;
-        log[5] = Cr2::started(cr2, Cr2::sadd16(addr), bytes.len(), false, autoend);
-        *address = addr;
-        *watchdog = 10;
-        *index = 0;
-        *length = bytes.len();
-        *length_write_read = read_len;
-        copy_in(data, bytes);
-        return Report {
-            answer: Answer::Done,
-            taken: 2,
-            logged: 6,
-        };
-    }
-    looked(Answer::BadLength, words, log)
-}
-
-// CR2 was read, and nothing follows.
-fn looked(answer: Answer, words: &[u32], log: &mut [u32]) -> Report
-    requires { ⌜ 1 ≤ size (now words) ⌝ }
-    ensures { λ r. ⌜ Reported (settle (said answer) 1 (4 ∷ getD (now (words .entry)) 0 0 ∷ []) (size (now (words .entry))) (size (now (log .entry)))) (now (log .entry)) r (now (log .exit)) ⌝ }
-{
-    if log.len() < 2 {
-        return refused(Answer::LogFull);
-    }
-    log[0] = Cr2::READ;
-    log[1] = words[0];
-    Report {
-        answer,
-        taken: 1,
-        logged: 2,
-    }
+    *address = addr;
+    *watchdog = 10;
+    *index = 0;
+    *length = n;
+    *length_write_read = read_len;
+    copy_in(data, bytes);
+    report
 }
 
 // A read over a link's fields, lent one by one. The part of the buffer that it is to fill is cleared; RXDR is read to flush it.
@@ -116,33 +76,9 @@ pub fn read_fields(
     if impossible(*index, *length, length_write_read, *watchdog) {
         return refused(Answer::ImpossibleLink);
     }
-    if words.len() < 1 {
-        return refused(Answer::OutOfWords);
-    }
-    let busy = words[0];
-    if Cr2::starting(busy) {
-        let entries = [Cr2::READ, busy];
-        return accessed(Answer::Pending, 1, &entries, log);
-    }
-    if words.len() < 3 {
-        return refused(Answer::OutOfWords);
-    }
     let n = read_len as usize;
-    let flushed = words[1];
-    let cr2 = words[2];
-    let start = Cr2::started(cr2, Cr2::sadd16(addr), n, true, true);
-    let entries = [
-        Cr2::READ,
-        busy,
-        Rxdr::READ,
-        flushed,
-        Cr2::READ,
-        cr2,
-        Cr2::WRITE,
-        start,
-    ];
-    let report = accessed(Answer::Done, 3, &entries, log);
-    if report.logged == 0 {
+    let report = read_opened(addr, n, words, log);
+    if report.taken != 3 {
         return report;
     }
     *address = addr;

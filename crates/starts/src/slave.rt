@@ -6,15 +6,12 @@ ghost use Rattle.ending.specs.Link.{linkAt};
 ghost use Rattle.ending.specs.Call.{slaveWrite};
 ghost use Rattle.ending.specs.Outcome.{outcome, Matches};
 use crate::bytes::copy_in;
-use crate::good_length;
-use crate::impossible;
 use access::Report;
-use access::accessed;
 use access::refused;
 use answers::Answer;
-use flags::Icr;
-use flags::Isr;
-use registers::cr2::Cr2;
+use openings::good_length;
+use openings::impossible;
+use openings::slave::slave_opened;
 
 // `slave_write` over a link's fields, lent one by one.
 pub fn slave_write_fields(
@@ -34,21 +31,7 @@ pub fn slave_write_fields(
         return refused(Answer::ImpossibleLink);
     }
     if good_length(bytes) {
-        if words.len() < 1 {
-            return refused(Answer::OutOfWords);
-        }
-        let cr2 = words[0];
-        let entries = [
-            Cr2::READ,
-            cr2,
-            Cr2::WRITE,
-            Cr2::sized(cr2, bytes.len(), false),
-            Isr::WRITE,
-            Isr::flushed(),
-            Icr::WRITE,
-            Icr::cleared(Isr::ADDR),
-        ];
-        let report = accessed(Answer::Done, 1, &entries, log);
+        let report = slave_opened(bytes.len(), words, log);
         if report.logged == 0 {
             return report;
         }

@@ -12,13 +12,13 @@ ghost use Rattle.ending.specs.Link.{Link, linkAt};
 ghost use Rattle.ending.specs.Plan.{after, onTcAt, raised};
 ghost use Rattle.ending.specs.Arms.{Arm, Tried};
 use access::Report;
+use access::refused;
 use access::settle;
 use access::word_at;
 use answers::Answer;
 use flags::Flag;
 use flags::Isr;
 use registers::cr2::Cr2;
-use transfer::answered;
 use transfer::one_more;
 
 // ISR and CR2 were read and CR2 is written.
@@ -83,16 +83,26 @@ fn second_half(
     ensures { λ r. ⌜ ((w e i : ℕ) (d : List ℕ) → Tried (after (read ISR (getD (now (words .entry)) 0 0)) (onTcAt true i (getD (now (words .entry)) 1 0) (linkAt address w (now (index .entry)) (now (length .entry)) e (now («length_write_read» .entry)) d))) (now (words .entry)) (linkAt address w (now (index .entry)) (now (length .entry)) e (now («length_write_read» .entry)) d)
         (linkAt address w (now (index .exit)) (now (length .exit)) e (now («length_write_read» .exit)) d) r (now (log .entry)) (now (log .exit))) ⌝ }
 {
-    let second = *length_write_read;
-    let cr2 = Cr2::started(0, Cr2::sadd16(address), second, true, true);
-    let report = answered(Answer::Pending, 1, Cr2::WRITE, cr2, words, log);
-    if report.logged == 0 {
-        return report;
+    if words.len() < 1 {
+        return refused(Answer::OutOfWords);
     }
+    if log.len() < 4 {
+        return refused(Answer::LogFull);
+    }
+    log[0] = Isr::READ;
+    log[1] = words[0];
+    // Read only now: held since the test of the link, it would cost the other flags a register.
+    let second = *length_write_read;
+    log[2] = Cr2::WRITE;
+    log[3] = Cr2::started(0, Cr2::sadd16(address), second, true, true);
     *length = second;
     *length_write_read = 0;
     *index = 0;
-    report
+    Report {
+        answer: Answer::Pending,
+        taken: 1,
+        logged: 4,
+    }
 }
 
 fn short_frame(

@@ -1,4 +1,4 @@
-// The steps of a check for the flags that move no byte, one for each. A step takes only what it changes; where its accesses are refused it changes nothing.
+// The other steps of a check, one for each flag. A step takes only what it changes; where its accesses are refused it changes nothing.
 ghost use mathlib.Core.Path.{_≡_};
 ghost use Prim.Native.Nat.{ℕ};
 ghost use mathlib.Core.List.{List};
@@ -10,10 +10,11 @@ use flags::Flag;
 use flags::Icr;
 use flags::Isr;
 use transfer::answered;
-use transfer::counted;
+use transfer::one_more;
 
 pub mod addressed;
 pub mod frame;
+pub mod received;
 
 pub fn on_berr(errors: &mut u32, words: &[u32], log: &mut [u32]) -> Report
     ensures { λ r. ⌜ ((a w i n h : ℕ) (d : List ℕ) → Arm Flag.Berr (now (words .entry)) (linkAt a w i n (now (errors .entry)) h d) (linkAt a w i n (now (errors .exit)) h d) r (now (log .entry)) (now (log .exit))) ⌝ }
@@ -26,7 +27,10 @@ pub fn on_berr(errors: &mut u32, words: &[u32], log: &mut [u32]) -> Report
         words,
         log,
     );
-    *errors = counted(*errors, report.logged);
+    if report.logged == 0 {
+        return report;
+    }
+    *errors = one_more(*errors);
     report
 }
 

@@ -1,16 +1,12 @@
-// The steps of a check that move a byte or end a transfer, and what all steps are made of. A step takes only what it changes; where its accesses are refused it changes nothing.
+// What the steps of a check are made of, and two of them: a byte sent, and the end of a transfer. A step takes only what it changes; where its accesses are refused it changes nothing.
 ghost use mathlib.Core.Path.{_≡_};
-ghost use Prim.Native.Nat.{ℕ, _+_, _<_};
-ghost use mathlib.Core.Bool.{false, cond};
+ghost use Prim.Native.Nat.{ℕ};
 ghost use mathlib.Core.List.{List, [], _∷_};
-ghost use lib.Dec.{eqb};
 ghost use lib.ListN.{length, getD};
-ghost use Rattle.access.specs.Access.{read, settle, Reported};
+ghost use Rattle.access.specs.Access.{settle, Reported};
 ghost use Rattle.answers.specs.Answers.{said};
 ghost use Rattle.ending.specs.Link.{Link, linkAt, oneMore};
-ghost use Rattle.ending.specs.Plan.{after, onRxne};
-ghost use Rattle.ending.specs.Arms.{Arm, Tried};
-ghost use Rattle.layout.specs.Layout.{ISR};
+ghost use Rattle.ending.specs.Arms.{Arm};
 use access::Report;
 use access::settle;
 use access::word_at;
@@ -18,7 +14,6 @@ use answers::Answer;
 use flags::Flag;
 use flags::Icr;
 use flags::Isr;
-use registers::data::Rxdr;
 use registers::data::Txdr;
 
 // One more error; the count stops at its top.
@@ -29,16 +24,6 @@ pub fn one_more(errors: u32) -> u32
         return errors + 1;
     }
     errors
-}
-
-// The errors after accesses that end with one, logged or refused.
-pub fn counted(errors: u32, logged: usize) -> u32
-    ensures { λ r. ⌜ r ≡ cond (eqb logged 0) errors (oneMore errors) ⌝ }
-{
-    if logged == 0 {
-        return errors;
-    }
-    one_more(errors)
 }
 
 // ISR was read, and one more register is read or written.
@@ -64,17 +49,6 @@ pub fn on_nothing(words: &[u32], log: &mut [u32]) -> Report
     settle(Answer::Pending, 1, &entries, words, log)
 }
 
-// The index after an access that was logged or refused.
-fn moved_on(index: usize, logged: usize) -> usize
-    requires { ⌜ index < 255 ⌝ }
-    ensures { λ r. ⌜ r ≡ cond (eqb logged 0) index (index + 1) ⌝ }
-{
-    if logged == 0 {
-        return index;
-    }
-    index + 1
-}
-
 // The next byte goes on the wire.
 pub fn on_txis(
     index: &mut usize,
@@ -95,53 +69,13 @@ pub fn on_txis(
             words,
             log,
         );
-        *index = moved_on(i, report.logged);
-        return report;
-    }
-    on_nothing(words, log)
-}
-
-// A byte came in. With a full index RXDR is read anyway, if RXNE is still set, to clear the flag.
-pub fn on_rxne(
-    index: &mut usize,
-    length: u8,
-    data: &mut [u8; 255],
-    words: &[u32],
-    log: &mut [u32],
-) -> Report
-    ensures { λ r. ⌜ ((a w e h : ℕ) → Arm Flag.Rxne (now (words .entry)) (linkAt a w (now (index .entry)) length e h (now («data» .entry))) (linkAt a w (now (index .exit)) length e h (now («data» .exit))) r (now (log .entry)) (now (log .exit))) ⌝ }
-{
-    let i = *index;
-    if i < length as usize {
-        let next = word_at(words, 1);
-        let report = answered(Answer::Pending, 2, Rxdr::READ, next, words, log);
         if report.logged == 0 {
             return report;
         }
-        data[i] = Rxdr::received(next);
         *index = i + 1;
         return report;
     }
-    full(words, log)
-}
-
-// With a full index.
-fn full(words: &[u32], log: &mut [u32]) -> Report
-    ensures { λ r. ⌜ ((l : Link) → Tried (after (read ISR (getD (now (words .entry)) 0 0)) (onRxne false (getD (now (words .entry)) 1 0) (getD (now (words .entry)) 2 0) l)) (now (words .entry)) l l r (now (log .entry)) (now (log .exit))) ⌝ }
-{
-    let next = word_at(words, 1);
-    if Isr::RXNE.is_set(next) {
-        let entries = [
-            Isr::READ,
-            word_at(words, 0),
-            Isr::READ,
-            next,
-            Rxdr::READ,
-            word_at(words, 2),
-        ];
-        return settle(Answer::Pending, 3, &entries, words, log);
-    }
-    answered(Answer::Pending, 2, Isr::READ, next, words, log)
+    on_nothing(words, log)
 }
 
 // The transfer ended: with nothing moved it was not acknowledged, else its bytes are shown. The index stays.
@@ -164,8 +98,11 @@ pub fn on_stopf(
             words,
             log,
         );
-        *watchdog = ended(*watchdog, report.logged);
-        *errors = counted(*errors, report.logged);
+        if report.logged == 0 {
+            return report;
+        }
+        *watchdog = 0;
+        *errors = one_more(*errors);
         return report;
     }
     let answer = Answer::Data {
@@ -174,16 +111,9 @@ pub fn on_stopf(
         count: index,
     };
     let report = answered(answer, 1, Icr::WRITE, Icr::cleared(Isr::STOPF), words, log);
-    *watchdog = ended(*watchdog, report.logged);
-    report
-}
-
-// The watchdog after the access that ends a transfer, logged or refused.
-fn ended(watchdog: u16, logged: usize) -> u16
-    ensures { λ r. ⌜ r ≡ cond (eqb logged 0) watchdog 0 ⌝ }
-{
-    if logged == 0 {
-        return watchdog;
+    if report.logged == 0 {
+        return report;
     }
-    0
+    *watchdog = 0;
+    report
 }

@@ -3,15 +3,14 @@ use mathlib.Core.Path.{_≡_, refl, sym, _∙_}
 use native.Mathlib.Omega.{arith}
 use mathlib.Core.Bool.{true, false}
 use mathlib.Core.List.{[]}
-use lib.ListN.{length, getD}
+use lib.ListN.{getD}
 use Rattle.answers.specs.Answers.{says}
 use Rattle.ending.specs.Link.{linkAt}
 use Rattle.ending.specs.Call.{slaveWrite}
 use Rattle.ending.specs.Plan.{onSlaveWrite}
 use Rattle.ending.proofs.Outcomes.{outcome-12, outcome-of, bare, good-255}
-use Rattle.ending.proofs.Settling.{kept, gone, short}
+use Rattle.ending.proofs.Settling.{kept, gone}
 use borrow.Author.Needs.{needs}
-use borrow.Author.Tests.{le-leb}
 use Rattle.starts.proofs.slave.slave_write_fields.Statement.{statement}
 use Rattle.starts.proofs.slave.slave_write_fields.Tie as tie
 
@@ -26,41 +25,32 @@ returns c =
 returns-2 : tie.Need-returns-2
 returns-2 c =
     λ a e.
-    let x = c .before .before .before .before .before .before .before .before .before .before .before .args in
+    let x = c .before .before .before .before .before .before .before .before .before .before .before .before .before .before .before .args in
     let ws = x .words .now in
     let l = linkAt a (x .watchdog) (x .index .now) (x .length .now) e (x .length-write-read) (x .«data» .now) in
-    outcome-of (slaveWrite (x .bytes .now)) ws l (sym (c .before .before .before .before .before .impossible .ensures) ∙ c .before .before .before .before .if1 .left)
-    (rw (sym (c .before .before .before .good-length .ensures) ∙ c .before .before .if2 .taken) (short (onSlaveWrite true (x .bytes .now) (getD ws 0 0) l) l ws (c .before .if3 .taken) (c .refused2 .ensures)))
+    outcome-of (slaveWrite (x .bytes .now)) ws l (sym (c .before .before .before .before .before .before .before .before .before .impossible .ensures) ∙ c .before .before .before .before .before .before .before .before .if1 .left)
+    (rw (sym (c .before .before .before .before .before .before .before .good-length .ensures) ∙ c .before .before .before .before .before .before .if2 .taken) (kept (onSlaveWrite true (x .bytes .now) (getD ws 0 0) l) l ws (c .before .before .before .before .slave-opened .ensures) (c .if3 .taken) (omega arith)))
+
+copy-in-requires : tie.Need-copy-in-requires
+copy-in-requires c κs = good-255 (c .before .before .before .before .before .before .before .before .before .before .before .before .before .before .before .before .args .bytes .now) (sym (c .before .before .before .before .before .before .before .before .good-length .ensures) ∙ c .before .before .before .before .before .before .before .if2 .taken)
 
 returns-3 : tie.Need-returns-3
 returns-3 c =
     λ a e.
-    let x = c .before .before .before .before .before .before .before .before .before .before .before .before .before .before .before .before .before .before .before .before .before .args in
+    let x = c .before .before .before .before .before .before .before .before .before .before .before .before .before .before .before .before .before .args in
     let ws = x .words .now in
     let l = linkAt a (x .watchdog) (x .index .now) (x .length .now) e (x .length-write-read) (x .«data» .now) in
-    outcome-of (slaveWrite (x .bytes .now)) ws l (sym (c .before .before .before .before .before .before .before .before .before .before .before .before .before .before .before .impossible .ensures) ∙ c .before .before .before .before .before .before .before .before .before .before .before .before .before .before .if1 .left)
-    (rw (sym (c .before .before .before .before .before .before .before .before .before .before .before .before .before .good-length .ensures) ∙ c .before .before .before .before .before .before .before .before .before .before .before .before .if2 .taken) (kept (onSlaveWrite true (x .bytes .now) (getD ws 0 0) l) l ws (rw (c .before .before .before .before .before .before .before .cleared .ensures, c .before .before .before .before .before .before .before .before .flushed .ensures, c .before .before .before .before .before .before .before .before .before .sized .ensures) at (c .before .before .before .before .accessed .ensures (length ws) (le-leb 1 (length ws) (c .before .before .before .before .before .before .before .before .before .before .before .if3 .left)))) (c .if4 .taken) (omega arith)))
-
-copy-in-requires : tie.Need-copy-in-requires
-copy-in-requires c κs = good-255 (c .before .before .before .before .before .before .before .before .before .before .before .before .before .before .before .before .before .before .before .before .before .before .args .bytes .now) (sym (c .before .before .before .before .before .before .before .before .before .before .before .before .before .before .good-length .ensures) ∙ c .before .before .before .before .before .before .before .before .before .before .before .before .before .if2 .taken)
+    outcome-of (slaveWrite (x .bytes .now)) ws l (sym (c .before .before .before .before .before .before .before .before .before .before .before .impossible .ensures) ∙ c .before .before .before .before .before .before .before .before .before .before .if1 .left)
+    (rw (sym (c .before .before .before .before .before .before .before .before .before .good-length .ensures) ∙ c .before .before .before .before .before .before .before .before .if2 .taken, c .copy-in .ensures) (gone (onSlaveWrite true (x .bytes .now) (getD ws 0 0) l) l ws (c .before .before .before .before .before .before .slave-opened .ensures) (c .before .before .if3 .left) refl))
 
 returns-4 : tie.Need-returns-4
 returns-4 c =
-    λ a e.
-    let x = c .before .before .before .before .before .before .before .before .before .before .before .before .before .before .before .before .before .before .before .before .before .before .before .args in
-    let ws = x .words .now in
-    let l = linkAt a (x .watchdog) (x .index .now) (x .length .now) e (x .length-write-read) (x .«data» .now) in
-    outcome-of (slaveWrite (x .bytes .now)) ws l (sym (c .before .before .before .before .before .before .before .before .before .before .before .before .before .before .before .before .before .impossible .ensures) ∙ c .before .before .before .before .before .before .before .before .before .before .before .before .before .before .before .before .if1 .left)
-    (rw (sym (c .before .before .before .before .before .before .before .before .before .before .before .before .before .before .before .good-length .ensures) ∙ c .before .before .before .before .before .before .before .before .before .before .before .before .before .before .if2 .taken, c .copy-in .ensures) (gone (onSlaveWrite true (x .bytes .now) (getD ws 0 0) l) l ws (rw (c .before .before .before .before .before .before .before .before .before .cleared .ensures, c .before .before .before .before .before .before .before .before .before .before .flushed .ensures, c .before .before .before .before .before .before .before .before .before .before .before .sized .ensures) at (c .before .before .before .before .before .before .accessed .ensures (length ws) (le-leb 1 (length ws) (c .before .before .before .before .before .before .before .before .before .before .before .before .before .if3 .left)))) (c .before .before .if4 .left) refl))
-
-returns-5 : tie.Need-returns-5
-returns-5 c =
     λ a e.
     let x = c .before .before .before .before .before .before .before .before .before .before .args in
     let ws = x .words .now in
     let l = linkAt a (x .watchdog) (x .index .now) (x .length .now) e (x .length-write-read) (x .«data» .now) in
     outcome-of (slaveWrite (x .bytes .now)) ws l (sym (c .before .before .before .before .impossible .ensures) ∙ c .before .before .before .if1 .left)
-    (rw (sym (c .before .before .good-length .ensures) ∙ c .before .if2 .left, c .refused3 .ensures) (bare (says 6 []) [] ws l l refl refl refl refl))
+    (rw (sym (c .before .before .good-length .ensures) ∙ c .before .if2 .left, c .refused2 .ensures) (bare (says 6 []) [] ws l l refl refl refl refl))
 
 pub slave-write-fields-spec : {M : Type 1} → statement M
-slave-write-fields-spec = tie.close (tie.spec (λ c κs. tt) (λ c κs. tt) returns (λ c κs. tt) (λ c κs. tt) returns-2 (λ c. search needs) (λ c κs. tt) (λ c κs. tt) (λ c κs. tt) (λ c. search needs) (λ c κs. tt) (λ c. search needs) returns-3 copy-in-requires (λ c. search needs) returns-4 (λ c κs. tt) returns-5)
+slave-write-fields-spec = tie.close (tie.spec (λ c κs. tt) (λ c κs. tt) returns (λ c κs. tt) (λ c κs. tt) (λ c. search needs) returns-2 copy-in-requires (λ c. search needs) returns-3 (λ c κs. tt) returns-4)

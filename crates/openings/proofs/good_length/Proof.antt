@@ -1,9 +1,9 @@
--- `starts::good_length` meets its contract.
+-- `openings::good_length` meets its contract.
 use lib.ListN.{length}
 use native.Mathlib.Omega.{arith}
 use borrow.Author.Tests.{lt-ltb}
-use Rattle.starts.proofs.good_length.Statement.{statement}
-use Rattle.starts.proofs.good_length.Tie as tie
+use Rattle.openings.proofs.good_length.Statement.{statement}
+use Rattle.openings.proofs.good_length.Tie as tie
 
 returns : tie.Need-returns
 returns c = rw (c .if1 .taken)

@@ -1,7 +1,7 @@
--- `starts::impossible` meets its contract: each test is one of the definition's.
+-- `openings::impossible` meets its contract: each test is one of the definition's.
 use borrow.Author.Tests.{lt-ltb, le-ltb}
-use Rattle.starts.proofs.impossible.Statement.{statement}
-use Rattle.starts.proofs.impossible.Tie as tie
+use Rattle.openings.proofs.impossible.Statement.{statement}
+use Rattle.openings.proofs.impossible.Tie as tie
 
 returns : tie.Need-returns
 returns c = rw (lt-ltb _ _ (c .if1 .taken))
