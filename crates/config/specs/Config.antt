@@ -2,15 +2,16 @@
 use Prim.Native.Nat.{ℕ, _+_, _-_, _*_, _/_, min}
 use mathlib.Core.Bool.{Bool, true, false, cond}
 use mathlib.Core.List.{[], _∷_}
-use lib.Dec.{eqb, ltb, leb}
+use lib.Dec.{eqb, ltb}
 use Rattle.config.specs.declared.Config.{Config}
-use Rattle.config.specs.declared.Mode.{Mode}
 use Rattle.config.specs.declared.Setting.{Setting}
 use Rattle.config.specs.declared.Setting.the-variants.{Unset, Set}
 use Rattle.config.specs.declared.Timing.{Timing}
 use Rattle.config.specs.declared.Timing.the-variants.{Bits, NoRate}
 use Rattle.config.specs.declared.SlaveAddressMask.{SlaveAddressMask}
 use Rattle.config.specs.declared.SlaveAddressMask.the-variants.{MaskNone, MaskOneBit, MaskTwoBits, MaskThreeBits, MaskFourBits, MaskFiveBits, MaskSixBits, MaskAllBits}
+use Rattle.limits.specs.declared.Mode.{Mode}
+use Rattle.limits.specs.Limits.{modeOf, filterAllowed}
 use Rattle.layout.specs.Layout.{SCLL, SCLH, SDADEL, SCLDEL, PRESC, _⟨_≔_⟩, _⟨_⟩}
 use Rattle.answers.specs.Answers.{Said, says}
 
@@ -76,17 +77,10 @@ withSecondAddress address mask c = record {
 
 -- the setter of the digital filter takes 0 to 16, and answers 8 above; the configuration is then as it was
 abbrev pub filterAnswer : ℕ → Said
-filterAnswer cycles = cond (leb cycles 16) (says 0 []) (says 8 [])
+filterAnswer cycles = cond (filterAllowed cycles) (says 0 []) (says 8 [])
 
 abbrev pub withFilter : ℕ → Config → Config
-withFilter cycles c = cond (leb cycles 16) (withFilters (c .«analog_filter») cycles c) c
-
--- what a speed comes with: up to 100,000, and above
-abbrev pub modeOf : ℕ → Mode
-modeOf speed =
-    cond (leb speed 100000)
-    (record { presc = 3; least = 5; shorter = 4; sdadel = 2; scldel = 4 })
-    (record { presc = 1; least = 7; shorter = 6; sdadel = 1; scldel = 3 })
+withFilter cycles c = cond (filterAllowed cycles) (withFilters (c .«analog_filter») cycles c) c
 
 -- each division rounded down
 abbrev pub quotient : ℕ → ℕ → ℕ → ℕ

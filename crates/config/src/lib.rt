@@ -3,9 +3,11 @@ ghost use mathlib.Core.Path.{_≡_};
 ghost use mathlib.Core.Bool.{true, false};
 ghost use Prim.Native.Nat.{_<_, _≤_, min};
 ghost use Rattle.answers.specs.Answers.{said};
-ghost use Rattle.config.specs.Config.{maskNumber, plain, withFilters, withOwnAddress, withSecondAddress, filterAnswer, withFilter, modeOf, modeWord, atQuotient, atSpeed, timingBits, saidTiming, period};
+ghost use Rattle.config.specs.Config.{maskNumber, plain, withFilters, withOwnAddress, withSecondAddress, filterAnswer, withFilter, modeWord, atQuotient, atSpeed, timingBits, saidTiming, period};
 use answers::Answer;
 use fields::Field;
+use limits::Mode;
+use limits::filter_allowed;
 
 // How many of the low bits of the second address are not compared.
 pub enum SlaveAddressMask {
@@ -65,58 +67,26 @@ pub enum Timing {
     NoRate,
 }
 
-// What a speed comes with: the prescaler, the least quotient, how much shorter SCLH is than SCLL, and the delays.
-pub struct Mode {
-    pub presc: u32,
-    pub least: u32,
-    pub shorter: u32,
-    pub sdadel: u32,
-    pub scldel: u32,
+// The five fields of a timing word.
+fn timing_word(mode: Mode, scll: u32) -> u32
+    requires { ⌜ mode .shorter ≤ scll ⌝ }
+    ensures { λ r. ⌜ r ≡ modeWord mode scll ⌝ }
+{
+    let presc = Config::PRESC.put(0, mode.presc);
+    let scldel = Config::SCLDEL.put(presc, mode.scldel);
+    let sdadel = Config::SDADEL.put(scldel, mode.sdadel);
+    let sclh = Config::SCLH.put(sdadel, scll - mode.shorter);
+    Config::SCLL.put(sclh, scll)
 }
 
-impl Mode {
-    fn of(speed: u32) -> Mode
-        ensures { λ r. ⌜ (r ≡ modeOf speed) × (r .presc ≤ 3) × (r .shorter < r .least) × (r .shorter ≤ 255) ⌝ }
-    {
-        if speed <= 100_000 {
-            return Mode {
-                presc: 3,
-                least: 5,
-                shorter: 4,
-                sdadel: 2,
-                scldel: 4,
-            };
-        }
-        Mode {
-            presc: 1,
-            least: 7,
-            shorter: 6,
-            sdadel: 1,
-            scldel: 3,
-        }
+fn at_quotient(mode: Mode, q: u32) -> Timing
+    requires { ⌜ (mode .shorter < mode .least) × (mode .shorter ≤ 255) ⌝ }
+    ensures { λ r. ⌜ saidTiming r ≡ atQuotient mode q ⌝ }
+{
+    if q < mode.least {
+        return Timing::NoRate;
     }
-
-    // The five fields of a timing word.
-    fn word(self, scll: u32) -> u32
-        requires { ⌜ self .shorter ≤ scll ⌝ }
-        ensures { λ r. ⌜ r ≡ modeWord self scll ⌝ }
-    {
-        let presc = Config::PRESC.put(0, self.presc);
-        let scldel = Config::SCLDEL.put(presc, self.scldel);
-        let sdadel = Config::SDADEL.put(scldel, self.sdadel);
-        let sclh = Config::SCLH.put(sdadel, scll - self.shorter);
-        Config::SCLL.put(sclh, scll)
-    }
-
-    fn at_quotient(self, q: u32) -> Timing
-        requires { ⌜ (self .shorter < self .least) × (self .shorter ≤ 255) ⌝ }
-        ensures { λ r. ⌜ saidTiming r ≡ atQuotient self q ⌝ }
-    {
-        if q < self.least {
-            return Timing::NoRate;
-        }
-        Timing::Bits(self.word(min(q - 1, 255)))
-    }
+    Timing::Bits(timing_word(mode, min(q - 1, 255)))
 }
 
 fn min(a: u32, b: u32) -> u32
@@ -133,7 +103,7 @@ fn at_speed(clock: u32, speed: u32) -> Timing
         return Timing::NoRate;
     }
     let mode = Mode::of(speed);
-    mode.at_quotient(clock / 2 / (mode.presc + 1) / speed)
+    at_quotient(mode, clock / 2 / (mode.presc + 1) / speed)
 }
 
 impl Config {
@@ -197,7 +167,7 @@ impl Config {
     pub fn enable_digital_filter(mut self, cycles: u8) -> Filtered
         ensures { λ r. ⌜ (said (r .answer) ≡ filterAnswer cycles) × (r .config ≡ withFilter cycles self) ⌝ }
     {
-        if cycles <= 16 {
+        if filter_allowed(cycles) {
             self.digital_filter = cycles;
             return Filtered {
                 answer: Answer::Done,

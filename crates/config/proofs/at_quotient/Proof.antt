@@ -1,9 +1,9 @@
--- `config::Mode::at_quotient` meets its contract.
+-- `config::at_quotient` meets its contract.
 use mathlib.Core.Path.{_≡_, refl, sym, _∙_}
 use borrow.Author.Tests.{lt-ltb, le-ltb}
 use borrow.Author.Needs.{needs}
-use Rattle.config.proofs.Mode.at_quotient.Statement.{statement}
-use Rattle.config.proofs.Mode.at_quotient.Tie as tie
+use Rattle.config.proofs.at_quotient.Statement.{statement}
+use Rattle.config.proofs.at_quotient.Tie as tie
 
 returns : tie.Need-returns
 returns c = rw (lt-ltb _ _ (c .if1 .taken))
