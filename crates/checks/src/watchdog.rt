@@ -10,9 +10,9 @@ use access::Report;
 use access::accessed;
 use access::refused;
 use answers::Answer;
+use errors::one_more;
 use openings::impossible;
 use registers::cr1::Cr1;
-use transfer::one_more;
 
 // `execute_watchdog` over a link's fields, lent one by one.
 pub fn watchdog_fields(

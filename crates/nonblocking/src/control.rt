@@ -68,7 +68,7 @@ impl Link {
         link.errors = 0;
         Called {
             link,
-            report: refused(Answer::Errors(self.errors)),
+            report: errors::told(self.errors),
         }
     }
 

@@ -1,24 +1,18 @@
-// What a start tests, and its accesses: all of it but the link's fields.
+// What a start tests, and the accesses of a master's write.
 ghost use mathlib.Core.Path.{_≡_};
-ghost use mathlib.Core.Bool.{true, false};
+ghost use mathlib.Core.Bool.{false};
 ghost use mathlib.Core.List.{[], _∷_};
 ghost use lib.ListN.{length as size, getD};
-ghost use Rattle.layout.specs.Layout.{CR2, RXDR};
+ghost use Rattle.layout.specs.Layout.{CR2};
 ghost use Rattle.layout.specs.Words.{starting, started, sadd16};
 ghost use Rattle.access.specs.Access.{read, write, settle, settled, Reported};
 ghost use Rattle.answers.specs.Answers.{said};
 ghost use Rattle.ending.specs.Link.{Link, impossibleAt};
 ghost use Rattle.ending.specs.Plan.{onStart, goodLength};
 use access::Report;
-use access::accessed;
 use access::refused;
-use access::settle;
-use access::word_at;
 use answers::Answer;
 use registers::cr2::Cr2;
-use registers::data::Rxdr;
-
-pub mod slave;
 
 // Whether no run of calls leaves such a link: answer 12.
 pub fn impossible(index: usize, length: usize, length_write_read: usize, watchdog: u16) -> bool
@@ -47,7 +41,7 @@ pub fn good_length(bytes: &[u8]) -> bool
 }
 
 // CR2 was read, and nothing follows.
-fn looked(answer: Answer, words: &[u32], log: &mut [u32]) -> Report
+pub fn looked(answer: Answer, words: &[u32], log: &mut [u32]) -> Report
     ensures { λ r. ⌜ Reported (settle (said answer) 1 (4 ∷ getD (now (words .entry)) 0 0 ∷ []) (size (now (words .entry))) (size (now (log .entry)))) (now (log .entry)) r (now (log .exit)) ⌝ }
 {
     if words.len() < 1 {
@@ -104,33 +98,4 @@ pub fn write_opened(
         };
     }
     looked(Answer::BadLength, words, log)
-}
-
-// A read: whether the bus is free; RXDR is read to flush it.
-pub fn read_opened(addr: u16, nbytes: usize, words: &[u32], log: &mut [u32]) -> Report
-    ensures { λ r. ⌜ ((l l′ : Link) → Reported (settled (onStart (starting (getD (now (words .entry)) 0 0)) true (getD (now (words .entry)) 0 0) (read RXDR (getD (now (words .entry)) 1 0) ∷ read CR2 (getD (now (words .entry)) 2 0) ∷ write CR2 (started (getD (now (words .entry)) 2 0) (sadd16 addr) nbytes true true) ∷ []) l l′ .answer)
-        (onStart (starting (getD (now (words .entry)) 0 0)) true (getD (now (words .entry)) 0 0) (read RXDR (getD (now (words .entry)) 1 0) ∷ read CR2 (getD (now (words .entry)) 2 0) ∷ write CR2 (started (getD (now (words .entry)) 2 0) (sadd16 addr) nbytes true true) ∷ []) l l′ .accesses) (size (now (words .entry))) (size (now (log .entry)))) (now (log .entry)) r (now (log .exit))) ⌝ }
-{
-    if words.len() < 1 {
-        return refused(Answer::OutOfWords);
-    }
-    let busy = words[0];
-    if Cr2::starting(busy) {
-        return looked(Answer::Pending, words, log);
-    }
-    if words.len() < 3 {
-        return refused(Answer::OutOfWords);
-    }
-    let cr2 = words[2];
-    let entries = [
-        Cr2::READ,
-        busy,
-        Rxdr::READ,
-        words[1],
-        Cr2::READ,
-        cr2,
-        Cr2::WRITE,
-        Cr2::started(cr2, Cr2::sadd16(addr), nbytes, true, true),
-    ];
-    accessed(Answer::Done, 3, &entries, log)
 }

@@ -4,4 +4,6 @@ pub use openings::impossible;
 
 mod bytes;
 pub mod master;
+mod offering;
+mod reading;
 pub mod slave;

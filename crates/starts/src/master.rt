@@ -10,12 +10,12 @@ ghost use Rattle.ending.specs.Plan.{writeStart, readStart};
 ghost use Rattle.ending.specs.Outcome.{settled, Matches};
 use crate::bytes::clear;
 use crate::bytes::copy_in;
+use crate::reading::read_opened;
 use access::Report;
 use access::refused;
 use answers::Answer;
 use openings::good_length;
 use openings::impossible;
-use openings::read_opened;
 use openings::write_opened;
 
 // A write over a link's fields, lent one by one. Without `autoend` a read of `read_len` bytes follows it.

@@ -6,12 +6,12 @@ ghost use Rattle.ending.specs.Link.{linkAt};
 ghost use Rattle.ending.specs.Call.{slaveWrite};
 ghost use Rattle.ending.specs.Outcome.{outcome, Matches};
 use crate::bytes::copy_in;
+use crate::offering::slave_opened;
 use access::Report;
 use access::refused;
 use answers::Answer;
 use openings::good_length;
 use openings::impossible;
-use openings::slave::slave_opened;
 
 // `slave_write` over a link's fields, lent one by one.
 pub fn slave_write_fields(

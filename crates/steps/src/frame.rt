@@ -16,10 +16,10 @@ use access::refused;
 use access::settle;
 use access::word_at;
 use answers::Answer;
+use errors::one_more;
 use flags::Flag;
 use flags::Isr;
 use registers::cr2::Cr2;
-use transfer::one_more;
 
 // ISR and CR2 were read and CR2 is written.
 fn cr2_written(answer: Answer, cr2: u32, words: &[u32], log: &mut [u32]) -> Report

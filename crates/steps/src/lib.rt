@@ -6,11 +6,11 @@ ghost use Rattle.ending.specs.Link.{Link, linkAt};
 ghost use Rattle.ending.specs.Arms.{Arm};
 use access::Report;
 use answers::Answer;
+use errors::one_more;
 use flags::Flag;
 use flags::Icr;
 use flags::Isr;
 use transfer::answered;
-use transfer::one_more;
 
 pub mod addressed;
 pub mod frame;

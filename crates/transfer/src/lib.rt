@@ -5,26 +5,17 @@ ghost use mathlib.Core.List.{List, [], _∷_};
 ghost use lib.ListN.{length, getD};
 ghost use Rattle.access.specs.Access.{settle, Reported};
 ghost use Rattle.answers.specs.Answers.{said};
-ghost use Rattle.ending.specs.Link.{Link, linkAt, oneMore};
+ghost use Rattle.ending.specs.Link.{Link, linkAt};
 ghost use Rattle.ending.specs.Arms.{Arm};
 use access::Report;
 use access::settle;
 use access::word_at;
 use answers::Answer;
+use errors::one_more;
 use flags::Flag;
 use flags::Icr;
 use flags::Isr;
 use registers::data::Txdr;
-
-// One more error; the count stops at its top.
-pub fn one_more(errors: u32) -> u32
-    ensures { λ r. ⌜ r ≡ oneMore errors ⌝ }
-{
-    if errors < 4_294_967_295 {
-        return errors + 1;
-    }
-    errors
-}
 
 // ISR was read, and one more register is read or written.
 pub fn answered(

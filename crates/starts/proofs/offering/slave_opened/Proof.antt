@@ -1,7 +1,7 @@
--- `openings::slave::slave_opened` meets its contract.
+-- `starts::offering::slave_opened` meets its contract.
 use borrow.Author.Needs.{needs}
-use Rattle.openings.proofs.slave.slave_opened.Statement.{statement}
-use Rattle.openings.proofs.slave.slave_opened.Tie as tie
+use Rattle.starts.proofs.offering.slave_opened.Statement.{statement}
+use Rattle.starts.proofs.offering.slave_opened.Tie as tie
 
 returns : tie.Need-returns
 returns c = rw (c .before .before .before .before .before .cleared .ensures, c .before .before .before .before .before .before .flushed .ensures, c .before .before .before .before .before .before .before .sized .ensures, c .before .before .before .before .before .before .before .before .word-at .ensures) at (c .before .before .settle .ensures)

@@ -1,4 +1,4 @@
--- `openings::read_opened` meets its contract.
+-- `starts::reading::read_opened` meets its contract.
 use mathlib.Core.Path.{_≡_, refl, sym, _∙_}
 use mathlib.Core.Bool.{true, false}
 use mathlib.Core.List.{[], _∷_}
@@ -8,10 +8,10 @@ use Rattle.layout.specs.Layout.{CR2, RXDR}
 use Rattle.layout.specs.Words.{starting, started, sadd16}
 use Rattle.access.specs.Access.{read, write}
 use Rattle.answers.specs.Answers.{says}
 use Rattle.openings.proofs.Opened.{short, unread}
 use borrow.Author.Needs.{needs}
-use Rattle.openings.proofs.read_opened.Statement.{statement}
-use Rattle.openings.proofs.read_opened.Tie as tie
+use Rattle.starts.proofs.reading.read_opened.Statement.{statement}
+use Rattle.starts.proofs.reading.read_opened.Tie as tie
 
 returns : tie.Need-returns
 returns c =

@@ -1,9 +1,9 @@
--- `transfer::one_more` meets its contract.
+-- `errors::one_more` meets its contract.
 use borrow.Author.Tests.{lt-ltb, le-ltb}
 use Rattle.ending.specs.Link.{oneMore}
 use borrow.Author.Needs.{needs}
-use Rattle.transfer.proofs.one_more.Statement.{statement}
-use Rattle.transfer.proofs.one_more.Tie as tie
+use Rattle.errors.proofs.one_more.Statement.{statement}
+use Rattle.errors.proofs.one_more.Tie as tie
 
 returns : tie.Need-returns
 unfolding oneMore

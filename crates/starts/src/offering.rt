@@ -1,4 +1,4 @@
-// The slave's start.
+// The accesses of a slave's start.
 ghost use mathlib.Core.Path.{_≡_};
 ghost use mathlib.Core.Bool.{false};
 ghost use mathlib.Core.List.{[], _∷_};
@@ -16,7 +16,7 @@ use flags::Isr;
 use registers::cr2::Cr2;
 
 // The length is set, TXDR is flushed, and ADDR is cleared.
-pub fn slave_opened(nbytes: usize, words: &[u32], log: &mut [u32]) -> Report
+pub(crate) fn slave_opened(nbytes: usize, words: &[u32], log: &mut [u32]) -> Report
     ensures { λ r. ⌜ Reported (settle (says 0 []) 1 (0x04 ∷ getD (now (words .entry)) 0 0 ∷ 0x104 ∷ sized (getD (now (words .entry)) 0 0) nbytes false ∷ 0x118 ∷ flushed ∷ 0x11C ∷ cleared ADDR ∷ []) (size (now (words .entry))) (size (now (log .entry)))) (now (log .entry)) r (now (log .exit)) ⌝ }
 {
     let cr2 = word_at(words, 0);
