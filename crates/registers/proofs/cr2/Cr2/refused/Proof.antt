@@ -5,7 +5,7 @@ use Rattle.registers.proofs.cr2.Cr2.refused.Tie as tie
 
 returns : tie.Need-returns
 unfolding refused
-returns c = cc
+returns c = rw (c .put2 .ensures, c .before .put .ensures)
 
 pub refused-spec : {M : Type 1} → statement M
 refused-spec = tie.close (tie.spec (λ c κs. tt) (λ c κs. tt) returns)

@@ -7,7 +7,7 @@ use Rattle.registers.proofs.cr2.Cr2.sized.Tie as tie
 
 returns : tie.Need-returns
 unfolding sized
-returns c = cc (put-low (c .before .before .before .args .cr2) (place NBYTES) (c .before .before .before .args .nbytes))
+returns c = rw (c .switch .ensures, c .before .put .ensures, c .before .before .low-byte .ensures, put-low (c .before .before .before .args .cr2) (place NBYTES) (c .before .before .before .args .nbytes))
 
 pub sized-spec : {M : Type 1} → statement M
 sized-spec = tie.close (tie.spec (λ c κs. tt) (λ c κs. tt) (λ c κs. tt) returns)

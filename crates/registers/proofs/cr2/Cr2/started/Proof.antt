@@ -7,7 +7,7 @@ use Rattle.registers.proofs.cr2.Cr2.started.Tie as tie
 
 returns : tie.Need-returns
 unfolding started
-returns c = cc (put-low (c .before .before .before .before .before .before .put .result) (place NBYTES) (c .before .before .before .before .before .before .before .args .nbytes))
+returns c = rw (c .put4 .ensures, c .before .switch2 .ensures, c .before .before .switch .ensures, c .before .before .before .put3 .ensures, c .before .before .before .before .put2 .ensures, c .before .before .before .before .before .low-byte .ensures, put-low (c .before .before .before .before .before .before .put .result) (place NBYTES) (c .before .before .before .before .before .before .before .args .nbytes), c .before .before .before .before .before .before .put .ensures)
 
 pub started-spec : {M : Type 1} → statement M
 started-spec = tie.close (tie.spec (λ c κs. tt) (λ c κs. tt) (λ c κs. tt) (λ c κs. tt) (λ c κs. tt) (λ c κs. tt) (λ c κs. tt) returns)
