@@ -1,11 +1,14 @@
 // What the programs play and beside do: a script from standard input, played through both drivers; prints the outcome of each line.
 use nonblocking::link::Link;
 use parked::Parked;
+use print::answer::Told;
+use script::calls::Call;
 
 mod begun;
 mod line;
 mod link;
-mod run;
+mod outcome;
+pub mod run;
 mod settings;
 mod unwaited;
 mod waiting;
@@ -20,25 +23,8 @@ struct Kept {
     pub parked: Parked,
     pub send: usize,
     pub recv: usize,
-    // The output that is still to be written.
-    pub used: usize,
-}
-
-pub fn play() {
-    let mut buffer = io::buffer();
-    let mut line = [0u8; 32768];
-    let mut words = [0u32; 4096];
-    let mut log = [0u32; 65536];
-    let mut send = [0u8; 16384];
-    let mut recv = [0u8; 16384];
-    let mut out = io::large_buffer();
-    run::run(
-        &mut buffer,
-        &mut line,
-        &mut words,
-        &mut log,
-        &mut send,
-        &mut recv,
-        &mut out,
-    );
+    // Of the last line: its call, what it told, and how much of the log it filled.
+    pub call: Call,
+    pub told: Told,
+    pub logged: usize,
 }

@@ -1,12 +1,15 @@
 // The calls of the non-blocking driver.
+use crate::Kept;
 use crate::settings::configuration;
 use crate::settings::is_done;
 use access::refused;
 use answers::Answer;
 use nonblocking::link::Called;
 use nonblocking::link::Link;
+use print::answer::Told;
 use script::Bytes;
-use script::Name;
+use script::calls::*;
+use script::parse::bytes_of;
 use script::slots::*;
 use script::tokens::part;
 
@@ -80,32 +83,31 @@ fn construct(link: Link, slots: &Slots, words: &[u32], log: &mut [u32]) -> Calle
 }
 
 // The calls that make no access, and `nb reset`.
-fn told(link: Link, name: Name) -> Called {
-    match name {
-        Name::NbErrors => link.get_errors_reset(),
-        Name::NbDataM => link.master_get_data(),
-        Name::NbDataS => link.slave_get_data(),
-        Name::NbAddrM => link.get_address(),
-        Name::NbAddrS => link.get_address(),
+fn told(link: Link, call: Call) -> Called {
+    match call {
+        NB_ERRORS => link.get_errors_reset(),
+        NB_DATA_M => link.master_get_data(),
+        NB_DATA_S => link.slave_get_data(),
+        NB_ADDR_M | NB_ADDR_S => link.get_address(),
         _ => put(Link::new()),
     }
 }
 
 // The calls that take no more than the words.
-fn simple(link: Link, name: Name, words: &[u32], log: &mut [u32]) -> Called {
-    match name {
-        Name::NbCheck => link.check_isr_flags(words, log),
-        Name::NbWatchdog => link.execute_watchdog(words, log),
-        Name::NbListen => link.listen(words, log),
-        Name::NbUnlisten => link.unlisten(words, log),
-        _ => told(link, name),
+fn simple(link: Link, call: Call, words: &[u32], log: &mut [u32]) -> Called {
+    match call {
+        NB_CHECK => link.check_isr_flags(words, log),
+        NB_WATCHDOG => link.execute_watchdog(words, log),
+        NB_LISTEN => link.listen(words, log),
+        NB_UNLISTEN => link.unlisten(words, log),
+        _ => told(link, call),
     }
 }
 
 // The calls of a master.
 fn master(
     link: Link,
-    name: Name,
+    call: Call,
     slots: &Slots,
     bytes: &[u8],
     words: &[u32],
@@ -113,19 +115,19 @@ fn master(
 ) -> Called {
     let address = short(slots, ADDRESS_16);
     let length = byte(slots, LENGTH);
-    match name {
-        Name::NbMasterWrite => link.master_write(address, bytes, words, log),
-        Name::NbMasterWriteRead => link.master_write_read(address, bytes, length, words, log),
-        Name::NbMasterRead => link.master_read(address, length, words, log),
-        Name::NbSetAddress => link.set_address(address, words, log),
-        _ => simple(link, name, words, log),
+    match call {
+        NB_MASTER_WRITE => link.master_write(address, bytes, words, log),
+        NB_MASTER_WRITE_READ => link.master_write_read(address, bytes, length, words, log),
+        NB_MASTER_READ => link.master_read(address, length, words, log),
+        NB_SET_ADDRESS => link.set_address(address, words, log),
+        _ => simple(link, call, words, log),
     }
 }
 
-// A line of the non-blocking driver; the first ones of `bytes`, so many, are those that it gives.
-pub(crate) fn link_call(
+// A call with the bytes that its line gives, the first ones of `bytes`.
+fn link_call(
     link: Link,
-    name: Name,
+    call: Call,
     slots: &Slots,
     bytes: &Bytes,
     count: usize,
@@ -133,11 +135,42 @@ pub(crate) fn link_call(
     log: &mut [u32],
 ) -> Called {
     let given = part(bytes, 0, count);
-    match name {
-        Name::NbSet => put(set(link, slots, given)),
-        Name::NbNew => construct(link, slots, words, log),
-        Name::NbSlaveWrite => link.slave_write(given, words, log),
-        Name::NbSbc => link.slave_sbc(number(slots, SBC) != 0, words, log),
-        _ => master(link, name, slots, given, words, log),
+    match call {
+        NB_SET => put(set(link, slots, given)),
+        NB_NEW => construct(link, slots, words, log),
+        NB_SLAVE_WRITE => link.slave_write(given, words, log),
+        NB_SBC => link.slave_sbc(number(slots, SBC) != 0, words, log),
+        _ => master(link, call, slots, given, words, log),
+    }
+}
+
+// The slot of the bytes that a line gives.
+fn given(slots: &Slots) -> usize {
+    if has(slots, DATA) { DATA } else { SEND }
+}
+
+pub(crate) fn play_link(
+    kept: Kept,
+    call: Call,
+    text: &[u8],
+    slots: &Slots,
+    words: &[u32],
+    log: &mut [u32],
+) -> Kept {
+    let mut bytes = [0u8; 16384];
+    let count = bytes_of(text, slots, given(slots), &mut bytes);
+    let called = link_call(kept.link, call, slots, &bytes, count, words, log);
+    let report = called.report;
+    let answer = report.answer;
+    let link = called.link;
+    let parked = kept.parked;
+    Kept {
+        link,
+        parked,
+        send: kept.send,
+        recv: kept.recv,
+        call,
+        told: Told::Answer(answer),
+        logged: report.logged,
     }
 }

@@ -1,19 +1,16 @@
 // A whole script, from standard input.
 use crate::Kept;
-use crate::Log;
 use crate::line::play_line;
-use crate::line::too_long;
+use crate::outcome::outcome;
 use nonblocking::link::Link;
 use parked::End;
 use parked::Kind;
 use parked::Parked;
 use parked::Phase;
-use print::buffer::Buffer;
+use print::answer::Told;
 use print::buffer::flush;
-use script::Bytes;
-use script::Text;
-use script::Words;
-use script::input::Line;
+use script::calls::BAD_LINE;
+use script::input::NO_LINE;
 use script::input::next_line;
 
 // The link as constructed, and no call begun.
@@ -30,39 +27,45 @@ fn at_first() -> Kept {
         },
         send: 0,
         recv: 0,
-        used: 0,
+        call: BAD_LINE,
+        told: Told::BadLine,
+        logged: 0,
     }
 }
 
-// The buffers: of the input, a line, the words that it gives, the log, the slices kept, and the output.
-pub(crate) fn run(
-    buffer: &mut [u8; 4096],
-    line: &mut Text,
-    words: &mut Words,
-    log: &mut Log,
-    send: &mut Bytes,
-    recv: &mut Bytes,
-    out: &mut Buffer,
-) {
+pub fn run() {
+    // The input, a line of it, the words that the line gives, the log, the slices kept, and the output.
+    let mut buffer = io::buffer();
+    let mut line = [0u8; 32768];
+    let mut words = [0u32; 4096];
+    let mut log = [0u32; 65536];
+    let mut send = [0u8; 16384];
+    let mut recv = [0u8; 16384];
+    let mut out = io::large_buffer();
     let mut at: usize = 0;
     let mut end: usize = 0;
     let mut kept = at_first();
+    let mut used: usize = 0;
     let mut number: u64 = 1;
-    loop {
-        let next = next_line(buffer, &mut at, &mut end, line);
-        match next {
-            Line::Text(count) => {
-                kept = play_line(kept, number, line, count, words, log, send, recv, out);
-            }
-            Line::TooLong => kept = too_long(kept, number, out),
-            Line::Skipped => {}
-            Line::End => break,
-        }
-        // No script has as many lines.
-        if 18_446_744_073_709_551_614 < number {
+    // No script has as many lines.
+    while number < 18_446_744_073_709_551_615 {
+        let count = next_line(&mut buffer, &mut at, &mut end, &mut line);
+        if count == NO_LINE {
             break;
+        }
+        if 0 < count {
+            kept = play_line(
+                kept,
+                &line,
+                count,
+                &mut words,
+                &mut log,
+                &mut send,
+                &mut recv,
+            );
+            used = outcome(&mut out, used, number, kept, &recv, &log);
         }
         number += 1;
     }
-    flush(out, kept.used);
+    flush(&out, used);
 }

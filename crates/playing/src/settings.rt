@@ -5,7 +5,8 @@ use config::Filtered;
 use config::Setting;
 use config::SlaveAddressMask;
 use config::Timing;
-use script::Name;
+use print::answer::Told;
+use script::calls::*;
 use script::slots::*;
 
 fn mask(number: u64) -> SlaveAddressMask {
@@ -73,23 +74,15 @@ pub(crate) fn is_done(answer: Answer) -> bool {
     }
 }
 
-// What a call of the configuration tells.
-pub(crate) enum Told {
-    Word(u32),
-    Period(u32),
-    BadFilter,
-    NoRate,
-}
-
 fn timing(filtered: Filtered, clock: u32) -> Told {
     let answer = filtered.answer;
     if !is_done(answer) {
-        return Told::BadFilter;
+        return Told::Answer(Answer::BadFilter);
     }
     let timing = filtered.config.timing_bits(clock);
     match timing {
         Timing::Bits(bits) => Told::Word(bits),
-        Timing::NoRate => Told::NoRate,
+        Timing::NoRate => Told::Answer(Answer::NoRate),
     }
 }
 
@@ -97,16 +90,18 @@ fn timing(filtered: Filtered, clock: u32) -> Told {
 fn filter(filtered: Filtered) -> Told {
     let answer = filtered.answer;
     if !is_done(answer) {
-        return Told::BadFilter;
+        return Told::Answer(Answer::BadFilter);
     }
     let config = filtered.config;
     Told::Word(config.digital_filter as u32)
 }
 
-pub(crate) fn config_call(name: Name, slots: &Slots) -> Told {
-    match name {
-        Name::CfgTiming => timing(configuration(slots), word(slots, CLOCK)),
-        Name::CfgFilter => filter(config(slots).enable_digital_filter(byte(slots, CYCLES))),
-        _ => Told::Period(Config::scl_period(word(slots, PERIOD))),
+// A call of the configuration; what is no call at all is told as that.
+pub(crate) fn config_call(call: Call, slots: &Slots) -> Told {
+    match call {
+        CFG_TIMING => timing(configuration(slots), word(slots, CLOCK)),
+        CFG_FILTER => filter(config(slots).enable_digital_filter(byte(slots, CYCLES))),
+        CFG_PERIOD => Told::Period(Config::scl_period(word(slots, PERIOD))),
+        _ => Told::BadLine,
     }
 }

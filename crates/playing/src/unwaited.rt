@@ -1,4 +1,5 @@
 // The blocking calls that never wait.
+use crate::Kept;
 use crate::settings::configuration;
 use crate::settings::is_done;
 use access::Report;
@@ -10,7 +11,8 @@ use blocking::interrupts::listen;
 use blocking::interrupts::unlisten;
 use blocking::slave::slave_addressed;
 use blocking::slave::slave_sbc;
-use script::Name;
+use print::answer::Told;
+use script::calls::*;
 use script::slots::*;
 
 fn event(number: u64) -> Event {
@@ -21,10 +23,10 @@ fn event(number: u64) -> Event {
     }
 }
 
-fn call_event(name: Name, event: Event, words: &[u32], log: &mut [u32]) -> Report {
-    match name {
-        Name::BlListen => listen(event, words, log),
-        Name::BlUnlisten => unlisten(event, words, log),
+fn call_event(call: Call, event: Event, words: &[u32], log: &mut [u32]) -> Report {
+    match call {
+        BL_LISTEN => listen(event, words, log),
+        BL_UNLISTEN => unlisten(event, words, log),
         _ => clear_irq(event, log),
     }
 }
@@ -39,11 +41,33 @@ fn construct(slots: &Slots, words: &[u32], log: &mut [u32]) -> Report {
     refused(answer)
 }
 
-pub(crate) fn unwaited_call(name: Name, slots: &Slots, words: &[u32], log: &mut [u32]) -> Report {
-    match name {
-        Name::BlNew => construct(slots, words, log),
-        Name::BlSlaveAddressed => slave_addressed(words, log),
-        Name::BlSbc => slave_sbc(number(slots, SBC) != 0, words, log),
-        _ => call_event(name, event(number(slots, EVENT)), words, log),
+fn unwaited_call(call: Call, slots: &Slots, words: &[u32], log: &mut [u32]) -> Report {
+    match call {
+        BL_NEW => construct(slots, words, log),
+        BL_SLAVE_ADDRESSED => slave_addressed(words, log),
+        BL_SBC => slave_sbc(number(slots, SBC) != 0, words, log),
+        _ => call_event(call, event(number(slots, EVENT)), words, log),
+    }
+}
+
+pub(crate) fn play_unwaited(
+    kept: Kept,
+    call: Call,
+    slots: &Slots,
+    words: &[u32],
+    log: &mut [u32],
+) -> Kept {
+    let report = unwaited_call(call, slots, words, log);
+    let answer = report.answer;
+    let link = kept.link;
+    let parked = kept.parked;
+    Kept {
+        link,
+        parked,
+        send: kept.send,
+        recv: kept.recv,
+        call,
+        told: Told::Answer(answer),
+        logged: report.logged,
     }
 }

@@ -2,46 +2,20 @@
 use crate::Kept;
 use crate::begun::waiting_run;
 use crate::line::least;
-use crate::line::places;
-use crate::line::words_of;
 use blocking::Ran;
 use parked::Parked;
-use print::answer::accesses;
-use print::buffer::Buffer;
-use print::outcome::buffer_line;
-use print::outcome::plain;
+use print::answer::Told;
 use script::Bytes;
-use script::Name;
+use script::calls::*;
 use script::parse::bytes_of;
 use script::slots::*;
 use script::tokens::part;
 
-// Whether the recv slice is shown.
-fn shows(name: Name) -> bool {
-    match name {
-        Name::BlRead => true,
-        Name::BlWriteRead => true,
-        Name::BlSlaveRead => true,
-        Name::BlResume => true,
-        _ => false,
-    }
-}
-
-fn shown(ran: Ran, name: Name, recv: &[u8], log: &[u32], out: &mut Buffer, used: usize) -> usize {
-    let used = accesses(out, used, log, ran.logged);
-    let answer = ran.answer;
-    let used = plain(out, used, answer);
-    if shows(name) {
-        return buffer_line(out, used, recv);
-    }
-    used
-}
-
 // The call over so many of the places that are lent.
 fn play(
     parked: Parked,
-    name: Name,
-    slots: &Slots,
+    call: Call,
+    address: u8,
     send: &[u8],
     recv: &mut [u8],
     received: usize,
@@ -49,21 +23,20 @@ fn play(
     log: &mut [u32],
 ) -> Ran {
     let received = least(received, recv.len());
-    let room = least(places(slots), log.len());
     waiting_run(
         parked,
-        name,
-        byte(slots, ADDRESS_8),
+        call,
+        address,
         send,
         &mut recv[0..received],
-        words_of(words, slots),
-        &mut log[0..room],
+        words,
+        log,
     )
 }
 
 // How long a slice is from now on. One that the line gives takes the place of the kept one; without it a begun call has none.
 fn length(
-    name: Name,
+    call: Call,
     text: &[u8],
     slots: &Slots,
     slot: usize,
@@ -73,43 +46,41 @@ fn length(
     if has(slots, slot) {
         return bytes_of(text, slots, slot, bytes);
     }
-    match name {
-        Name::BlResume => kept,
-        _ => 0,
-    }
+    if call == BL_RESUME { kept } else { 0 }
 }
 
 pub(crate) fn play_waiting(
     kept: Kept,
-    name: Name,
+    call: Call,
     text: &[u8],
     slots: &Slots,
     words: &[u32],
     log: &mut [u32],
     send: &mut Bytes,
     recv: &mut Bytes,
-    out: &mut Buffer,
 ) -> Kept {
-    let sent = length(name, text, slots, SEND, send, kept.send);
-    let received = length(name, text, slots, RECV, recv, kept.recv);
-    let parked = kept.parked;
+    let sent = length(call, text, slots, SEND, send, kept.send);
+    let received = length(call, text, slots, RECV, recv, kept.recv);
     let ran = play(
-        parked,
-        name,
-        slots,
+        kept.parked,
+        call,
+        byte(slots, ADDRESS_8),
         part(send, 0, sent),
         recv,
         received,
         words,
         log,
     );
+    let answer = ran.answer;
     let link = kept.link;
-    let next = ran.parked;
+    let parked = ran.parked;
     Kept {
         link,
-        parked: next,
+        parked,
         send: sent,
         recv: received,
-        used: shown(ran, name, part(recv, 0, received), log, out, kept.used),
+        call,
+        told: Told::Answer(answer),
+        logged: ran.logged,
     }
 }

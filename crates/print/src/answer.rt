@@ -1,6 +1,7 @@
 // Accesses and answers as lines.
 use crate::buffer::Buffer;
 use crate::buffer::byte;
+use crate::buffer::text;
 use crate::words::decimal;
 use crate::words::digit;
 use crate::words::hex2;
@@ -45,15 +46,9 @@ fn counted(out: &mut Buffer, used: usize, letter: u8, n: u64) -> usize {
     decimal(out, used, n)
 }
 
-pub fn number(out: &mut Buffer, used: usize, letter: u8, n: u64) -> usize {
-    let used = counted(out, used, letter, n);
-    byte(out, used, b'\n')
-}
-
-pub fn word(out: &mut Buffer, used: usize, letter: u8, n: u32) -> usize {
+fn word(out: &mut Buffer, used: usize, letter: u8, n: u32) -> usize {
     let used = kind(out, used, letter);
-    let used = hex8(out, used, n);
-    byte(out, used, b'\n')
+    hex8(out, used, n)
 }
 
 fn address(out: &mut Buffer, used: usize, letter: u8, n: u16) -> usize {
@@ -104,8 +99,21 @@ fn shown(out: &mut Buffer, used: usize, answer: Answer, bytes: &[u8]) -> usize {
     }
 }
 
-// The line of an answer.
-pub fn answer(out: &mut Buffer, used: usize, answer: Answer, bytes: &[u8]) -> usize {
-    let used = shown(out, used, answer, bytes);
+// What a line of a script tells: a call's answer, a word or a period of the configuration, or that it is no call.
+pub enum Told {
+    Answer(Answer),
+    Word(u32),
+    Period(u32),
+    BadLine,
+}
+
+// The line of what is told.
+pub fn told_line(out: &mut Buffer, used: usize, told: Told, bytes: &[u8]) -> usize {
+    let used = match told {
+        Told::Answer(answer) => shown(out, used, answer, bytes),
+        Told::Word(n) => word(out, used, b'V', n),
+        Told::Period(n) => counted(out, used, b'P', n as u64),
+        Told::BadLine => text(out, used, b"? bad line"),
+    };
     byte(out, used, b'\n')
 }

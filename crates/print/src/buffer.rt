@@ -16,7 +16,7 @@ pub fn flush(out: &Buffer, used: usize) {
 }
 
 // One byte; a full buffer is written first.
-pub fn byte(out: &mut Buffer, used: usize, byte: u8) -> usize {
+pub(crate) fn byte(out: &mut Buffer, used: usize, byte: u8) -> usize {
     if used < 65536 {
         out[used] = byte;
         return used + 1;
@@ -26,7 +26,7 @@ pub fn byte(out: &mut Buffer, used: usize, byte: u8) -> usize {
     1
 }
 
-pub fn text(out: &mut Buffer, used: usize, bytes: &[u8]) -> usize {
+pub(crate) fn text(out: &mut Buffer, used: usize, bytes: &[u8]) -> usize {
     let mut used = used;
     let mut i: usize = 0;
     while i < bytes.len() {

@@ -7,7 +7,7 @@ use crate::buffer::byte;
 use crate::buffer::text;
 
 // A hex digit: the lowest one of a number.
-pub fn digit(n: u32) -> u8
+pub(crate) fn digit(n: u32) -> u8
     ensures { λ r. ⌜ r ≡ capital (n % 16) ⌝ }
 {
     let d = (n % 16) as u8;
@@ -24,29 +24,29 @@ fn pair(out: &mut Buffer, used: usize, n: u32) -> usize {
     byte(out, used, digit(n))
 }
 
-pub fn letter(out: &mut Buffer, used: usize, letter: u8) -> usize {
+pub(crate) fn letter(out: &mut Buffer, used: usize, letter: u8) -> usize {
     let used = byte(out, used, b' ');
     byte(out, used, letter)
 }
 
 // Two digits, four, and eight.
-pub fn hex2(out: &mut Buffer, used: usize, n: u32) -> usize {
+pub(crate) fn hex2(out: &mut Buffer, used: usize, n: u32) -> usize {
     let used = byte(out, used, b' ');
     pair(out, used, n)
 }
 
-pub fn hex4(out: &mut Buffer, used: usize, n: u32) -> usize {
+pub(crate) fn hex4(out: &mut Buffer, used: usize, n: u32) -> usize {
     let used = hex2(out, used, n / 0x100);
     pair(out, used, n)
 }
 
-pub fn hex8(out: &mut Buffer, used: usize, n: u32) -> usize {
+pub(crate) fn hex8(out: &mut Buffer, used: usize, n: u32) -> usize {
     let used = hex4(out, used, n / 0x1_0000);
     let used = pair(out, used, n / 0x100);
     pair(out, used, n)
 }
 
-pub fn decimal(out: &mut Buffer, used: usize, n: u64) -> usize {
+pub(crate) fn decimal(out: &mut Buffer, used: usize, n: u64) -> usize {
     let mut digits = [0u8; 20];
     let k = io::decimal(n, &mut digits);
     let used = byte(out, used, b' ');
@@ -54,7 +54,7 @@ pub fn decimal(out: &mut Buffer, used: usize, n: u64) -> usize {
 }
 
 // Bytes as hex pairs, `-` for none.
-pub fn pairs(out: &mut Buffer, used: usize, bytes: &[u8]) -> usize {
+pub(crate) fn pairs(out: &mut Buffer, used: usize, bytes: &[u8]) -> usize {
     if bytes.len() == 0 {
         return letter(out, used, b'-');
     }

@@ -4,6 +4,7 @@ use crate::Bytes;
 use crate::Number;
 use crate::numbers::decimal;
 use crate::numbers::hex;
+use crate::numbers::number;
 use crate::tokens::part;
 use crate::tokens::which;
 
@@ -12,9 +13,9 @@ fn byte(pairs: &[u8], place: usize) -> Number
     requires { ⌜ place < 16384 ⌝ }
 {
     if pairs.len() == 2 {
-        return hex(pairs, 0xFF);
+        return number(pairs, hex(0xFF));
     }
-    hex(part(pairs, 2 * place, 2 * place + 2), 0xFF)
+    number(part(pairs, 2 * place, 2 * place + 2), hex(0xFF))
 }
 
 // Writes the bytes of the pairs into the first places. Answers how many.
@@ -34,12 +35,12 @@ fn fill(pairs: &[u8], count: usize, out: &mut Bytes) -> Number {
 }
 
 fn repeated(token: &[u8], top: u64, out: &mut Bytes) -> Number {
-    let Number::Value(count) = decimal(part(token, 3, token.len()), top) else {
+    let Number::Value(count) = number(part(token, 3, token.len()), decimal(top)) else {
         return Number::None;
     };
     let pair = part(token, 0, 2);
     // Also a pair that stands nowhere has to be one.
-    let Number::Value(_) = hex(pair, 0xFF) else {
+    let Number::Value(_) = number(pair, hex(0xFF)) else {
         return Number::None;
     };
     fill(pair, count as usize, out)
@@ -61,7 +62,7 @@ fn pairs(token: &[u8], top: u64, out: &mut Bytes) -> Number {
 
 // The bytes into the lent array, and their number.
 pub(crate) fn bytes(token: &[u8], top: u64, out: &mut Bytes) -> Number {
-    if which(token, b"- ") == 0 {
+    if which(token, b"- ", 0) == 0 {
         return Number::Value(0);
     }
     if 3 < token.len() {

@@ -1,22 +1,17 @@
 // Lines of standard input.
 use crate::Text;
 
-// A line of so many characters; one of none, or a comment; one of too many; none.
-pub enum Line {
-    Text(usize),
-    Skipped,
-    TooLong,
-    End,
-}
+const NEWLINE: u32 = 10;
 
-// What the input has next.
-pub enum Next {
-    Byte(u8),
-    End,
+// What `next_byte` answers at the input's end.
+const NO_BYTE: u32 = 256;
+
+fn wide(b: u8) -> u32 {
+    b as u32
 }
 
 // The next byte; the buffer is filled again when it is used up.
-pub fn next_byte(buffer: &mut [u8; 4096], at: &mut usize, end: &mut usize) -> Next {
+fn next_byte(buffer: &mut [u8; 4096], at: &mut usize, end: &mut usize) -> u32 {
     let mut i = *at;
     let mut n = *end;
     if n <= i {
@@ -28,66 +23,60 @@ pub fn next_byte(buffer: &mut [u8; 4096], at: &mut usize, end: &mut usize) -> Ne
     if i < n {
         if i < 4096 {
             *at = i + 1;
-            return Next::Byte(buffer[i]);
+            return wide(buffer[i]);
         }
     }
     *at = i;
-    Next::End
+    NO_BYTE
 }
 
-// More characters than a line may have.
-const OVER: usize = 32_769;
+// What `next_line` answers for a line of more characters than one may have, and at the input's end.
+pub const TOO_LONG: usize = 32_769;
+
+pub const NO_LINE: usize = 32_770;
 
 // Adds a byte to the line. Answers how many it has now.
-fn add(line: &mut Text, count: usize, byte: u8) -> usize {
+fn add(line: &mut Text, count: usize, byte: u32) -> usize {
     if count < 32_768 {
-        line[count] = byte;
+        line[count] = (byte % 0x100) as u8;
         return count + 1;
     }
-    OVER
+    TOO_LONG
 }
 
-fn whole(line: &Text, count: usize) -> Line {
-    if count == 0 {
-        return Line::Skipped;
-    }
-    if line[0] == b'#' {
-        return Line::Skipped;
-    }
-    if count == OVER {
-        return Line::TooLong;
-    }
-    Line::Text(count)
+// A comment counts as a line of no characters.
+fn counted(line: &Text, count: usize) -> usize {
+    if line[0] == b'#' { 0 } else { count }
 }
 
 // A line that ends with the input; nothing at all is none.
-fn last(line: &Text, count: usize) -> Line {
+fn last(line: &Text, count: usize) -> usize {
     if count == 0 {
-        return Line::End;
+        return NO_LINE;
     }
-    whole(line, count)
+    counted(line, count)
 }
 
-// The next line, its newline not counted. The rest of one that is too long is passed over.
+// The next line, as the number of its characters, without the newline. The rest of one that is too long is passed over.
 pub fn next_line(
     buffer: &mut [u8; 4096],
     at: &mut usize,
     end: &mut usize,
     line: &mut Text,
-) -> Line {
+) -> usize {
     let mut count: usize = 0;
     // No line is as long as this.
     let mut turns: u64 = 18_446_744_073_709_551_615;
     while 0 < turns {
-        let next = next_byte(buffer, at, end);
-        let Next::Byte(byte) = next else {
+        let byte = next_byte(buffer, at, end);
+        if byte == NO_BYTE {
             return last(line, count);
-        };
-        if byte == b'\n' {
-            return whole(line, count);
+        }
+        if byte == NEWLINE {
+            return counted(line, count);
         }
         count = add(line, count, byte);
         turns -= 1;
     }
-    Line::End
+    NO_LINE
 }

@@ -1,10 +1,11 @@
 // The values of a call: its arguments by their place, and the options after them.
-use crate::Name;
 use crate::Number;
-use crate::numbers::at_most;
+use crate::calls::*;
+use crate::numbers::Form;
 use crate::numbers::decimal;
 use crate::numbers::hex;
 use crate::numbers::masked;
+use crate::numbers::number;
 use crate::slots::*;
 use crate::tokens::ends;
 use crate::tokens::find;
@@ -13,28 +14,28 @@ use crate::tokens::skip;
 use crate::tokens::which;
 
 // The slots of a call's arguments.
-fn arguments(name: Name) -> [usize; 3] {
-    match name {
-        Name::NbMasterWrite => [ADDRESS_16, SEND, NONE],
-        Name::NbMasterWriteRead => [ADDRESS_16, SEND, LENGTH],
-        Name::NbMasterRead => [ADDRESS_16, LENGTH, NONE],
-        Name::NbSetAddress => [ADDRESS_16, NONE, NONE],
-        Name::BlWrite => [ADDRESS_8, SEND, NONE],
-        Name::BlRead => [ADDRESS_8, RECV, NONE],
-        Name::BlWriteRead => [ADDRESS_8, SEND, RECV],
-        Name::NbSlaveWrite | Name::BlSlaveWrite => [SEND, NONE, NONE],
-        Name::BlSlaveRead => [RECV, NONE, NONE],
-        Name::NbSbc | Name::BlSbc => [SBC, NONE, NONE],
-        Name::BlListen | Name::BlUnlisten | Name::BlClearIrq => [EVENT, NONE, NONE],
-        Name::NbNew | Name::BlNew | Name::CfgTiming => [CLOCK, NONE, NONE],
-        Name::CfgFilter => [CYCLES, NONE, NONE],
-        Name::CfgPeriod => [PERIOD, NONE, NONE],
+fn arguments(call: Call) -> [usize; 3] {
+    match call {
+        NB_MASTER_WRITE => [ADDRESS_16, SEND, NONE],
+        NB_MASTER_WRITE_READ => [ADDRESS_16, SEND, LENGTH],
+        NB_MASTER_READ => [ADDRESS_16, LENGTH, NONE],
+        NB_SET_ADDRESS => [ADDRESS_16, NONE, NONE],
+        BL_WRITE => [ADDRESS_8, SEND, NONE],
+        BL_READ => [ADDRESS_8, RECV, NONE],
+        BL_WRITE_READ => [ADDRESS_8, SEND, RECV],
+        NB_SLAVE_WRITE | BL_SLAVE_WRITE => [SEND, NONE, NONE],
+        BL_SLAVE_READ => [RECV, NONE, NONE],
+        NB_SBC | BL_SBC => [SBC, NONE, NONE],
+        BL_LISTEN | BL_UNLISTEN | BL_CLEAR_IRQ => [EVENT, NONE, NONE],
+        NB_NEW | BL_NEW | CFG_TIMING => [CLOCK, NONE, NONE],
+        CFG_FILTER => [CYCLES, NONE, NONE],
+        CFG_PERIOD => [PERIOD, NONE, NONE],
         _ => [NONE, NONE, NONE],
     }
 }
 
-fn argument(name: Name, place: usize) -> usize {
-    let slots = arguments(name);
+fn argument(call: Call, place: usize) -> usize {
+    let slots = arguments(call);
     if place < 3 { slots[place] } else { NONE }
 }
 
@@ -48,38 +49,63 @@ fn among(slot: usize, first: usize, last: usize) -> usize {
 }
 
 // The slot of an option, where the call has it.
-fn option(name: Name, key: &[u8]) -> usize {
+fn option(call: Call, key: &[u8]) -> usize {
     let slot = which(
         key,
         b"log= addr= wd= idx= len= err= second= data= send= recv= speed= timing= analog= filter= dnf= own7= own10= own7raw= own2= ",
+        LOG,
     );
     if slot == LOG {
         return LOG;
     }
-    match name {
-        Name::NbSet => among(slot, ADDRESS, DATA),
-        Name::BlResume => among(slot, SEND, RECV),
-        Name::NbNew | Name::BlNew | Name::CfgTiming => among(slot, SPEED, OWN_2),
+    match call {
+        NB_SET => among(slot, ADDRESS, DATA),
+        BL_RESUME => among(slot, SEND, RECV),
+        NB_NEW | BL_NEW | CFG_TIMING => among(slot, SPEED, OWN_2),
         _ => NONE,
     }
 }
 
 // The slot of what is asked for at a place: an argument, which has no key, or an option where no argument is left.
-fn asked(name: Name, place: usize, key: &[u8]) -> usize {
-    let slot = argument(name, place);
+fn asked(call: Call, place: usize, key: &[u8]) -> usize {
+    let slot = argument(call, place);
     if key.len() == 0 {
         return slot;
     }
     if slot == NONE {
-        return option(name, key);
+        return option(call, key);
     }
     NONE
 }
 
-// A number of one digit.
-fn digit(token: &[u8], top: u64) -> Number {
-    if token.len() == 1 {
-        return decimal(token, top);
+// How the number of a slot is written.
+fn form(slot: usize) -> Form {
+    match slot {
+        LOG | WATCHDOG => decimal(0xFFFF),
+        INDEX | COUNT | SECOND_HALF => decimal(0xFFFF_FFFF_FFFF_FFFF),
+        ERRORS | SPEED | CLOCK => decimal(0xFFFF_FFFF),
+        FILTER | DNF | CYCLES | LENGTH => decimal(0xFF),
+        OWN_7 | ADDRESS_8 => hex(0xFF),
+        TIMING | PERIOD => hex(0xFFFF_FFFF),
+        ANALOG => one_digit(0),
+        SBC => one_digit(1),
+        _ => hex(0xFFFF),
+    }
+}
+
+fn one_digit(top: u64) -> Form {
+    Form {
+        base: 10,
+        digits: 1,
+        top,
+    }
+}
+
+// 0 for addr and 1 for rxne.
+fn event(token: &[u8]) -> Number {
+    let event = which(token, b"addr rxne ", 0);
+    if event < 2 {
+        return Number::Value(event as u64);
     }
     Number::None
 }
@@ -87,19 +113,11 @@ fn digit(token: &[u8], top: u64) -> Number {
 // The number that a token is for a slot. Of BYTES it is their place on the line: they are read where they are wanted.
 fn read(slot: usize, token: &[u8], place: usize) -> Number {
     match slot {
-        LOG | WATCHDOG => decimal(token, 0xFFFF),
-        INDEX | COUNT | SECOND_HALF => decimal(token, 0xFFFF_FFFF_FFFF_FFFF),
-        ERRORS | SPEED | CLOCK => decimal(token, 0xFFFF_FFFF),
-        FILTER | DNF | CYCLES | LENGTH => decimal(token, 0xFF),
-        ADDRESS | OWN_10 | OWN_7_RAW | ADDRESS_16 => hex(token, 0xFFFF),
-        OWN_7 | ADDRESS_8 => hex(token, 0xFF),
-        TIMING | PERIOD => hex(token, 0xFFFF_FFFF),
         OWN_2 => masked(token),
-        ANALOG => digit(token, 0),
-        SBC => digit(token, 1),
-        EVENT => at_most(which(token, b"addr rxne ") as u64, 1),
+        EVENT => event(token),
         DATA | SEND | RECV => Number::Value(place as u64),
-        _ => Number::None,
+        NONE => Number::None,
+        _ => number(token, form(slot)),
     }
 }
 
@@ -111,7 +129,7 @@ fn value_start(line: &[u8], start: usize, end: usize) -> usize {
 
 // Reads a token as what is asked for at its place, and keeps its number.
 fn keep(
-    name: Name,
+    call: Call,
     place: usize,
     line: &[u8],
     start: usize,
@@ -119,7 +137,7 @@ fn keep(
     slots: &mut Slots,
 ) -> bool {
     let value = value_start(line, start, end);
-    let slot = asked(name, place, part(line, start, value));
+    let slot = asked(call, place, part(line, start, value));
     let Number::Value(number) = read(slot, part(line, value, end), value) else {
         return false;
     };
@@ -130,8 +148,8 @@ fn keep(
 pub(crate) const OVER: usize = 18_446_744_073_709_551_615;
 
 // Where a call ends, if it lacks no argument.
-fn call_end(name: Name, place: usize, at: usize) -> usize {
-    if argument(name, place) == NONE {
+fn call_end(call: Call, place: usize, at: usize) -> usize {
+    if argument(call, place) == NONE {
         at
     } else {
         OVER
@@ -139,16 +157,16 @@ fn call_end(name: Name, place: usize, at: usize) -> usize {
 }
 
 // Keeps all values of a call. Answers where it ends. No call has as many values as the loop has turns.
-pub(crate) fn keep_items(name: Name, line: &[u8], from: usize, slots: &mut Slots) -> usize {
+pub(crate) fn keep_items(call: Call, line: &[u8], from: usize, slots: &mut Slots) -> usize {
     let mut at = from;
     let mut place: usize = 0;
     while place < 16 {
         let start = skip(line, at);
         at = find(line, b' ', start);
         if ends(part(line, start, at)) {
-            return call_end(name, place, at);
+            return call_end(call, place, at);
         }
-        if !keep(name, place, line, start, at, slots) {
+        if !keep(call, place, line, start, at, slots) {
             return OVER;
         }
         place += 1;

@@ -1,10 +1,33 @@
-// Numbers: first the number of digits is tested, then the range.
+// Numbers: first the number of digits is tested, then each digit and the range.
 ghost use mathlib.Core.Path.{_≡_};
 ghost use Prim.Native.Nat.{_≤_};
 ghost use Rattle.script.specs.HexDigits.{hexDigit};
 use crate::Number;
 use crate::tokens::find;
 use crate::tokens::part;
+
+// How a number is written: in a base, with at most so many digits, and up to which one.
+pub(crate) struct Form {
+    pub base: u64,
+    pub digits: usize,
+    pub top: u64,
+}
+
+pub(crate) fn decimal(top: u64) -> Form {
+    Form {
+        base: 10,
+        digits: 20,
+        top,
+    }
+}
+
+pub(crate) fn hex(top: u64) -> Form {
+    Form {
+        base: 16,
+        digits: 8,
+        top,
+    }
+}
 
 fn wide(b: u8) -> u64
     ensures { λ r. ⌜ r ≡ b ⌝ }
@@ -24,60 +47,41 @@ fn digit(b: u8) -> u64
     }
 }
 
-pub(crate) fn at_most(value: u64, top: u64) -> Number {
-    if value <= top {
-        return Number::Value(value);
-    }
-    Number::None
-}
-
-// 1 to 20 digits.
-pub(crate) fn decimal(token: &[u8], top: u64) -> Number {
-    if token.len() == 0 {
-        return Number::None;
-    }
-    if 20 < token.len() {
-        return Number::None;
-    }
+// The number that the digits of a token are.
+fn value(token: &[u8], base: u64, top: u64) -> Number {
     let mut value: u64 = 0;
     let mut i: usize = 0;
     while i < token.len() {
         let d = digit(token[i]);
-        if 9 < d {
+        if base <= d {
             return Number::None;
         }
-        if 1_844_674_407_370_955_161 < value {
+        if top / base < value {
             return Number::None;
         }
-        let tens = value * 10;
-        if 18_446_744_073_709_551_615 - d < tens {
+        let shifted = value * base;
+        if top - shifted < d {
             return Number::None;
         }
-        value = tens + d;
+        value = shifted + d;
         i += 1;
     }
-    at_most(value, top)
+    Number::Value(value)
 }
 
-// 1 to 8 digits.
-pub(crate) fn hex(token: &[u8], top: u64) -> Number {
+// The number that a token is.
+pub(crate) fn number(token: &[u8], form: Form) -> Number {
     if token.len() == 0 {
         return Number::None;
     }
-    if 8 < token.len() {
+    if form.digits < token.len() {
         return Number::None;
     }
-    let mut value: u64 = 0;
-    let mut i: usize = 0;
-    while i < token.len() {
-        let d = digit(token[i]);
-        if 15 < d {
-            return Number::None;
-        }
-        value = value % 0x1000_0000 * 16 + d;
-        i += 1;
-    }
-    at_most(value, top)
+    value(token, form.base, form.top)
+}
+
+pub fn word(token: &[u8]) -> Number {
+    number(token, hex(0xFFFF_FFFF))
 }
 
 // `A8:M` as 8 times the address and the mask.
@@ -86,10 +90,10 @@ pub(crate) fn masked(token: &[u8]) -> Number {
     if token.len() <= colon {
         return Number::None;
     }
-    let Number::Value(address) = hex(part(token, 0, colon), 0xFF) else {
+    let Number::Value(address) = number(part(token, 0, colon), hex(0xFF)) else {
         return Number::None;
     };
-    let Number::Value(mask) = decimal(part(token, colon + 1, token.len()), 7) else {
+    let Number::Value(mask) = number(part(token, colon + 1, token.len()), decimal(7)) else {
         return Number::None;
     };
     Number::Value(address % 0x100 * 8 + mask % 8)

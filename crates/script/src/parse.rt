@@ -1,13 +1,14 @@
 // From a line to its call.
 use crate::Bytes;
-use crate::Name;
 use crate::Number;
 use crate::Words;
 use crate::bytes::bytes;
+use crate::calls::BAD_LINE;
+use crate::calls::Call;
+use crate::calls::call_of;
 use crate::items::OVER;
 use crate::items::keep_items;
-use crate::names::name;
-use crate::numbers::hex;
+use crate::numbers::word as word_of;
 use crate::slots::*;
 use crate::tokens::find;
 use crate::tokens::part;
@@ -15,7 +16,7 @@ use crate::tokens::skip;
 
 // The word that a token is, into its place.
 fn keep_word(token: &[u8], words: &mut Words, place: usize) -> bool {
-    let Number::Value(word) = hex(token, 0xFFFF_FFFF) else {
+    let Number::Value(word) = word_of(token) else {
         return false;
     };
     if place < 4096 {
@@ -105,24 +106,24 @@ fn is_sound(line: &[u8], slots: &Slots) -> bool {
 }
 
 // The call of a line. Its numbers go into the slots, which hold none, its words into the lent array.
-pub fn parse(line: &[u8], words: &mut Words, slots: &mut Slots) -> Name {
+pub fn parse(line: &[u8], words: &mut Words, slots: &mut Slots) -> Call {
     let start = skip(line, 0);
     let end = find(line, b' ', start);
     let second = skip(line, end);
     let past = find(line, b' ', second);
-    let name = name(part(line, start, end), part(line, second, past));
-    let bar = keep_items(name, line, past, slots);
+    let call = call_of(part(line, start, end), part(line, second, past));
+    let bar = keep_items(call, line, past, slots);
     if bar == OVER {
-        return Name::BadLine;
+        return BAD_LINE;
     }
     let count = keep_words(line, bar, words);
     if count == OVER {
-        return Name::BadLine;
+        return BAD_LINE;
     }
     slots[WORDS] = count as u64;
     if is_sound(line, slots) {
-        name
+        call
     } else {
-        Name::BadLine
+        BAD_LINE
     }
 }

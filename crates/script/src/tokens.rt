@@ -55,15 +55,15 @@ fn agree(token: &[u8], count: usize, byte: u8) -> usize {
     18_446_744_073_709_551_615
 }
 
-const NO_NAME: usize = 1000;
+pub(crate) const NO_NAME: usize = 1000;
 
 fn one_more(n: usize) -> usize {
     if n < NO_NAME { n + 1 } else { n }
 }
 
-// Which of the names the token is, counted from 0. A space ends each name.
-pub(crate) fn which(token: &[u8], names: &[u8]) -> usize {
-    let mut index: usize = 0;
+// Which of the names the token is, the first one having the given number. A space ends each name.
+pub(crate) fn which(token: &[u8], names: &[u8], first: usize) -> usize {
+    let mut index = first;
     let mut count: usize = 0;
     let mut i: usize = 0;
     while i < names.len() {

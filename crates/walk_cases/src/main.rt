@@ -8,12 +8,10 @@ fn main() {
     // No input has so many walks.
     let mut turns: u64 = 18_446_744_073_709_551_615;
     while 0 < turns {
-        walking::run::run(&mut buffer, &mut at, &mut end);
-        if walking::input::skip_line(&mut buffer, &mut at, &mut end) {
-            io::write_all(STDOUT_FILENO, b"--\n");
-        } else {
+        if !walking::run::run(&mut buffer, &mut at, &mut end) {
             return;
         }
+        io::write_all(STDOUT_FILENO, b"--\n");
         turns -= 1;
     }
 }

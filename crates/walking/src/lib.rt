@@ -1,3 +1,3 @@
 // What the program walk does, over an input that is read as it goes.
-pub mod input;
+mod ahead;
 pub mod run;

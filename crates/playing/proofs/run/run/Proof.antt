@@ -5,10 +5,10 @@ use Rattle.playing.proofs.run.run.Statement.{statement}
 use Rattle.playing.proofs.run.run.Tie as tie
 
 abbrev Inv-loop : tie.InvT-loop
-Inv-loop buffer₀ line₀ words₀ log₀ send₀ recv₀ out₀ at₀ end₀ kept₀ number₀ buffer line words log send recv out at end kept number = 0 ≤ number
+Inv-loop buffer₀ line₀ words₀ log₀ send₀ recv₀ out₀ at₀ end₀ kept₀ used₀ number₀ buffer line words log send recv out at end kept used number = 0 ≤ number
 
 abbrev μ-loop : tie.MeasureT-loop
-μ-loop buffer₀ line₀ words₀ log₀ send₀ recv₀ out₀ at₀ end₀ kept₀ number₀ buffer line words log send recv out at end kept number = 18446744073709551615 - number
+μ-loop buffer₀ line₀ words₀ log₀ send₀ recv₀ out₀ at₀ end₀ kept₀ used₀ number₀ buffer line words log send recv out at end kept used number = 18446744073709551615 - number
 
 pub run-spec : {M : Type 1} → statement M
 run-spec =
@@ -17,14 +17,12 @@ run-spec =
     Inv-loop
     μ-loop
     (λ c κs. search needs)
-    (λ c. search needs)
+    (λ c κs. search needs)
     (λ c κs. search needs)
     (λ c. search needs)
     (λ c κs. search needs)
-    (λ c. search needs)
     (λ c κs. search needs)
-    (λ c. search needs)
-    (λ c. search needs)
+    (λ c κs. search needs)
     (λ c. search needs)
     (λ c. search needs)
     (λ c. search needs)

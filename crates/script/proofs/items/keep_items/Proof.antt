@@ -5,10 +5,10 @@ use Rattle.script.proofs.items.keep_items.Statement.{statement}
 use Rattle.script.proofs.items.keep_items.Tie as tie
 
 abbrev Inv-loop : tie.InvT-loop
-Inv-loop name line from slots₀ at₀ place₀ slots at place = 0 ≤ place
+Inv-loop call line from slots₀ at₀ place₀ slots at place = 0 ≤ place
 
 abbrev μ-loop : tie.MeasureT-loop
-μ-loop name line from slots₀ at₀ place₀ slots at place = 16 - place
+μ-loop call line from slots₀ at₀ place₀ slots at place = 16 - place
 
 pub keep-items-spec : {M : Type 1} → statement M
 keep-items-spec =

@@ -6,10 +6,10 @@ use Rattle.script.proofs.tokens.which.Statement.{statement}
 use Rattle.script.proofs.tokens.which.Tie as tie
 
 abbrev Inv-loop : tie.InvT-loop
-Inv-loop token names index₀ count₀ i₀ index count i = 0 ≤ i
+Inv-loop token names first index₀ count₀ i₀ index count i = 0 ≤ i
 
 abbrev μ-loop : tie.MeasureT-loop
-μ-loop token names index₀ count₀ i₀ index count i = length names - i
+μ-loop token names first index₀ count₀ i₀ index count i = length names - i
 
 loop-holds : tie.Need-loop-holds Inv-loop μ-loop
 loop-holds c = search needs

@@ -1,0 +1,99 @@
+// The words that are read ahead.
+use script::Number;
+use script::Text;
+use script::input::NO_LINE;
+use script::input::next_line;
+use script::numbers::word;
+use script::tokens::part;
+
+// At most three: a call takes no more. `open` while no other line has come, `more` while the input has not ended.
+pub(crate) struct Ahead {
+    pub words: [u32; 3],
+    pub count: usize,
+    pub open: bool,
+    pub more: bool,
+}
+
+// What a line of so many characters is: a word is eight hex digits, in either case.
+fn line_word(line: &Text, count: usize) -> Number {
+    if count == 8 {
+        return word(part(line, 0, 8));
+    }
+    Number::None
+}
+
+// One word more.
+fn with_word(ahead: Ahead, word: u64) -> Ahead {
+    let mut next = ahead;
+    let count = ahead.count;
+    if count < 3 {
+        next.words[count] = (word % 0x1_0000_0000) as u32;
+        next.count = count + 1;
+    }
+    next
+}
+
+// One line more. The last one may lack its end.
+fn with_line(
+    ahead: Ahead,
+    buffer: &mut [u8; 4096],
+    at: &mut usize,
+    end: &mut usize,
+    line: &mut Text,
+) -> Ahead {
+    let count = next_line(buffer, at, end, line);
+    let found = line_word(line, count);
+    match found {
+        Number::Value(word) => with_word(ahead, word),
+        Number::None => {
+            let mut next = ahead;
+            next.open = false;
+            next.more = count != NO_LINE;
+            next
+        }
+    }
+}
+
+// Reads ahead until there are three words or another line has come.
+pub(crate) fn fill(
+    ahead: Ahead,
+    buffer: &mut [u8; 4096],
+    at: &mut usize,
+    end: &mut usize,
+    line: &mut Text,
+) -> Ahead {
+    let mut next = ahead;
+    let mut turns: usize = 3;
+    while 0 < turns {
+        if 3 <= next.count {
+            return next;
+        }
+        if !next.open {
+            return next;
+        }
+        next = with_line(next, buffer, at, end, line);
+        turns -= 1;
+    }
+    next
+}
+
+// What is left after a call took its words.
+pub(crate) fn without(ahead: Ahead, taken: usize) -> Ahead {
+    let words = ahead.words;
+    let count = ahead.count;
+    if count < taken {
+        return ahead;
+    }
+    let left = match taken {
+        0 => words,
+        1 => [words[1], words[2], 0],
+        2 => [words[2], 0, 0],
+        _ => [0, 0, 0],
+    };
+    Ahead {
+        words: left,
+        count: count - taken,
+        open: ahead.open,
+        more: ahead.more,
+    }
+}
