@@ -8,7 +8,8 @@ lay-spec =
     tie.close
     (tie.spec
     (λ c κs. search needs)
+    (λ c κs. search needs)
     (λ c. search needs)
-    (λ c κs. search needs)
-    (λ c κs. search needs)
-    (λ c. cc))
+    (λ c. search needs)
+    (λ c. search needs)
+    (λ c. rw (c .before .before .kind-number .ensures, c .before .before .before .phase-marks .ensures)))

@@ -1,0 +1,26 @@
+-- `kept::end_marks` meets its contract: each arm returns the number and the word of its end.
+use borrow.Author.Needs.{needs}
+use Rattle.kept.proofs.end_marks.Statement.{statement}
+use Rattle.kept.proofs.end_marks.Tie as tie
+
+pub end-marks-spec : {M : Type 1} → statement M
+end-marks-spec =
+    tie.close
+    (tie.spec
+    (λ c. search needs)
+    (λ c. search needs)
+    (λ c. search needs)
+    (λ c. search needs)
+    (λ c. search needs)
+    (λ c. search needs)
+    (λ c. search needs)
+    (λ c. search needs)
+    (λ c. search needs)
+    (λ c. rw (c .enum-told .given .1))
+    (λ c. rw (c .enum-told2 .given .1))
+    (λ c. rw (c .enum-told3 .given .1))
+    (λ c. rw (c .enum-told4 .given .1))
+    (λ c. rw (c .enum-told5 .given .1))
+    (λ c. rw (c .enum-told6 .given .1))
+    (λ c. rw (c .enum-told7 .given .1))
+    (λ c. rw (c .before .end .given .1)))
