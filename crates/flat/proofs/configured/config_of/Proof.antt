@@ -1,4 +1,4 @@
--- `flat::configured::config_of` meets its contract: the settings and the mask are those that its callees return.
+-- `flat::configured::config_of` meets its contract: the two settings are those of their numbers.
 use borrow.Author.Needs.{needs}
 use Rattle.flat.proofs.configured.config_of.Statement.{statement}
 use Rattle.flat.proofs.configured.config_of.Tie as tie
@@ -14,13 +14,10 @@ config-of-spec =
     (λ c. search needs)
     (λ c κs. search needs)
     (λ c. search needs)
+    (λ c. search needs)
+    (λ c. search needs)
+    (λ c. search needs)
+    (λ c. search needs)
+    (λ c. search needs)
     (λ c κs. search needs)
-    (λ c. search needs)
-    (λ c. search needs)
-    (λ c. search needs)
-    (λ c. search needs)
-    (λ c. search needs)
-    (λ c. search needs)
-    (λ c. search needs)
-    (λ c. search needs)
-    (λ c. rw (c .before .before .before .before .before .mask-of .ensures, c .before .before .before .before .before .before .before .setting-of2 .ensures, c .before .before .before .before .before .before .before .before .before .before .setting-of .ensures)))
+    (λ c. rw (c .before .before .before .before .before .before .before .setting-of2 .ensures, c .before .before .before .before .before .before .before .before .before .before .setting-of .ensures) at (c .configured .ensures)))
