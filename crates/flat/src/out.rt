@@ -105,33 +105,10 @@ pub fn put_checked(report: Report, out: &mut [u64; 6])
         Answer::Nack => fill(out, 2, taken, logged, 0, 0, 0),
         Answer::BusError => fill(out, 3, taken, logged, 0, 0, 0),
         Answer::ArbitrationLost => fill(out, 4, taken, logged, 0, 0, 0),
-        Answer::IncorrectFrameSize(count) => fill(out, 5, taken, logged, count, 0, 0),
         Answer::OutOfWords => fill(out, 9, taken, logged, 0, 0, 0),
         Answer::LogFull => fill(out, 10, taken, logged, 0, 0, 0),
         Answer::ImpossibleLink => fill(out, 12, taken, logged, 0, 0, 0),
-        Answer::Data {
-            address,
-            direction,
-            count,
-        } => fill(
-            out,
-            0x44,
-            taken,
-            logged,
-            address as usize,
-            direction.number() as usize,
-            count,
-        ),
-        Answer::Addressed { address, direction } => fill(
-            out,
-            0x41,
-            taken,
-            logged,
-            address as usize,
-            direction.number() as usize,
-            0,
-        ),
-        _ => put(report, out),
+        _ => put_valued(report, out),
     }
 }
 
@@ -161,10 +138,35 @@ pub fn put_ran(report: Report, out: &mut [u64; 6])
         Answer::Nack => fill(out, 2, taken, logged, 0, 0, 0),
         Answer::BusError => fill(out, 3, taken, logged, 0, 0, 0),
         Answer::ArbitrationLost => fill(out, 4, taken, logged, 0, 0, 0),
-        Answer::IncorrectFrameSize(count) => fill(out, 5, taken, logged, count, 0, 0),
         Answer::OutOfWords => fill(out, 9, taken, logged, 0, 0, 0),
         Answer::LogFull => fill(out, 10, taken, logged, 0, 0, 0),
         Answer::WrongCall => fill(out, 11, taken, logged, 0, 0, 0),
+        _ => put_valued(report, out),
+    }
+}
+
+// The answers with values that a check or a run gives.
+fn put_valued(report: Report, out: &mut [u64; 6])
+    ensures { λ _. ⌜ now (out .exit) ≡ flat report ⌝ }
+{
+    let taken = report.taken;
+    let logged = report.logged;
+    let answer = report.answer;
+    match answer {
+        Answer::IncorrectFrameSize(count) => fill(out, 5, taken, logged, count, 0, 0),
+        Answer::Data {
+            address,
+            direction,
+            count,
+        } => fill(
+            out,
+            0x44,
+            taken,
+            logged,
+            address as usize,
+            direction.number() as usize,
+            count,
+        ),
         Answer::Addressed { address, direction } => fill(
             out,
             0x41,
