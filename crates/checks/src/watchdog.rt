@@ -1,8 +1,12 @@
 // The watchdog: after ten calls without an end of the transfer the unit is reset.
 ghost use mathlib.Core.Path.{_≡_};
 ghost use Prim.Native.Nat.{ℕ};
-ghost use mathlib.Core.List.{List};
-ghost use lib.ListN.{length as size};
+ghost use mathlib.Core.Bool.{true, false};
+ghost use mathlib.Core.List.{List, [], _∷_};
+ghost use lib.ListN.{length as size, getD};
+ghost use Rattle.layout.specs.Words.{powered};
+ghost use Rattle.access.specs.Access.{settle, Reported};
+ghost use Rattle.answers.specs.Answers.{says};
 ghost use Rattle.ending.specs.Link.{linkAt};
 ghost use Rattle.ending.specs.Call.{executeWatchdog};
 ghost use Rattle.ending.specs.Outcome.{outcome, Matches};
@@ -35,25 +39,7 @@ pub fn watchdog_fields(
         return refused(Answer::Done);
     }
     if left == 1 {
-        if words.len() < 3 {
-            return refused(Answer::OutOfWords);
-        }
-        let cr1 = words[0];
-        let waited = words[1];
-        let again = words[2];
-        let entries = [
-            Cr1::READ,
-            cr1,
-            Cr1::WRITE,
-            Cr1::PE.switch(cr1, false),
-            Cr1::READ,
-            waited,
-            Cr1::READ,
-            again,
-            Cr1::WRITE,
-            Cr1::PE.switch(again, true),
-        ];
-        let report = accessed(Answer::Done, 3, &entries, log);
+        let report = restarted(words, log);
         if report.logged == 0 {
             return report;
         }
@@ -63,4 +49,29 @@ pub fn watchdog_fields(
     }
     *watchdog = left - 1;
     refused(Answer::Done)
+}
+
+// The unit switched off and on, with a read between that forces the wait.
+fn restarted(words: &[u32], log: &mut [u32]) -> Report
+    ensures { λ r. ⌜ Reported (settle (says 0 []) 3 (0 ∷ getD (now (words .entry)) 0 0 ∷ 0x100 ∷ powered (getD (now (words .entry)) 0 0) false ∷ 0 ∷ getD (now (words .entry)) 1 0 ∷ 0 ∷ getD (now (words .entry)) 2 0 ∷ 0x100 ∷ powered (getD (now (words .entry)) 2 0) true ∷ []) (size (now (words .entry))) (size (now (log .entry)))) (now (log .entry)) r (now (log .exit)) ⌝ }
+{
+    if words.len() < 3 {
+        return refused(Answer::OutOfWords);
+    }
+    let cr1 = words[0];
+    let waited = words[1];
+    let again = words[2];
+    let entries = [
+        Cr1::READ,
+        cr1,
+        Cr1::WRITE,
+        Cr1::PE.switch(cr1, false),
+        Cr1::READ,
+        waited,
+        Cr1::READ,
+        again,
+        Cr1::WRITE,
+        Cr1::PE.switch(again, true),
+    ];
+    accessed(Answer::Done, 3, &entries, log)
 }

@@ -4,14 +4,14 @@ use native.Mathlib.Omega.{arith}
 use mathlib.Core.Bool.{true, false}
 use Prim.Native.Nat.{_-_}
 use mathlib.Core.List.{[]}
-use lib.ListN.{length, getD}
-use borrow.Author.Tests.{eq-eqb, ne-eqb, le-leb}
+use lib.ListN.{getD}
+use borrow.Author.Tests.{eq-eqb, ne-eqb}
 use Rattle.answers.specs.Answers.{says}
 use Rattle.ending.specs.Link.{linkAt, withWatchdog, common}
 use Rattle.ending.specs.Call.{executeWatchdog}
 use Rattle.ending.specs.Plan.{onWatchdog, changed}
 use Rattle.ending.proofs.Outcomes.{outcome-12, outcome-of, bare}
-use Rattle.ending.proofs.Settling.{kept, gone, short}
+use Rattle.ending.proofs.Settling.{kept, gone}
 use borrow.Author.Needs.{needs}
 use Rattle.checks.proofs.watchdog.watchdog_fields.Statement.{statement}
 use Rattle.checks.proofs.watchdog.watchdog_fields.Tie as tie
@@ -36,38 +36,29 @@ returns-2 c =
 returns-3 : tie.Need-returns-3
 returns-3 c =
     λ a d.
-    let x = c .before .before .before .before .before .before .before .before .before .args in
+    let x = c .before .before .before .before .before .before .before .before .before .before .before .before .before .args in
     let ws = x .words .now in
     let l = linkAt a (x .watchdog .now) (x .index) (x .length) (x .errors .now) (x .length-write-read) d in
-    outcome-of executeWatchdog ws l (sym (c .before .before .before .before .before .impossible .ensures) ∙ c .before .before .before .before .if1 .left)
-    (rw (ne-eqb (x .watchdog .now) 0 (c .before .before .before .if2 .left), eq-eqb (x .watchdog .now) 1 (c .before .before .if3 .taken)) (short (onWatchdog false true (getD ws 0 0) (getD ws 1 0) (getD ws 2 0) l) l ws (c .before .if4 .taken) (c .refused3 .ensures)))
+    outcome-of executeWatchdog ws l (sym (c .before .before .before .before .before .before .before .before .before .impossible .ensures) ∙ c .before .before .before .before .before .before .before .before .if1 .left)
+    (rw (ne-eqb (x .watchdog .now) 0 (c .before .before .before .before .before .before .before .if2 .left), eq-eqb (x .watchdog .now) 1 (c .before .before .before .before .before .before .if3 .taken)) (kept (onWatchdog false true (getD ws 0 0) (getD ws 1 0) (getD ws 2 0) l) l ws (c .before .before .before .before .restarted .ensures) (c .if4 .taken) (omega arith)))
 
 returns-4 : tie.Need-returns-4
 returns-4 c =
     λ a d.
-    let x = c .before .before .before .before .before .before .before .before .before .before .before .before .before .before .before .before .before .before .before .before .args in
+    let x = c .before .before .before .before .before .before .before .before .before .before .before .before .before .before .before .args in
     let ws = x .words .now in
     let l = linkAt a (x .watchdog .now) (x .index) (x .length) (x .errors .now) (x .length-write-read) d in
-    outcome-of executeWatchdog ws l (sym (c .before .before .before .before .before .before .before .before .before .before .before .before .before .before .before .before .impossible .ensures) ∙ c .before .before .before .before .before .before .before .before .before .before .before .before .before .before .before .if1 .left)
-    (rw (ne-eqb (x .watchdog .now) 0 (c .before .before .before .before .before .before .before .before .before .before .before .before .before .before .if2 .left), eq-eqb (x .watchdog .now) 1 (c .before .before .before .before .before .before .before .before .before .before .before .before .before .if3 .taken)) (kept (onWatchdog false true (getD ws 0 0) (getD ws 1 0) (getD ws 2 0) l) l ws (rw (c .before .before .before .before .before .before .before .switch2 .ensures, c .before .before .before .before .before .before .before .before .switch .ensures) at (c .before .before .before .before .accessed .ensures (length ws) (le-leb 3 (length ws) (c .before .before .before .before .before .before .before .before .before .before .before .before .if4 .left)))) (c .if5 .taken) (omega arith)))
+    outcome-of executeWatchdog ws l (sym (c .before .before .before .before .before .before .before .before .before .before .before .impossible .ensures) ∙ c .before .before .before .before .before .before .before .before .before .before .if1 .left)
+    (rw (ne-eqb (x .watchdog .now) 0 (c .before .before .before .before .before .before .before .before .before .if2 .left), eq-eqb (x .watchdog .now) 1 (c .before .before .before .before .before .before .before .before .if3 .taken), c .one-more .ensures) (gone (onWatchdog false true (getD ws 0 0) (getD ws 1 0) (getD ws 2 0) l) l ws (c .before .before .before .before .before .before .restarted .ensures) (c .before .before .if4 .left) refl))
 
 returns-5 : tie.Need-returns-5
 returns-5 c =
-    λ a d.
-    let x = c .before .before .before .before .before .before .before .before .before .before .before .before .before .before .before .before .before .before .before .before .before .before .args in
-    let ws = x .words .now in
-    let l = linkAt a (x .watchdog .now) (x .index) (x .length) (x .errors .now) (x .length-write-read) d in
-    outcome-of executeWatchdog ws l (sym (c .before .before .before .before .before .before .before .before .before .before .before .before .before .before .before .before .before .before .impossible .ensures) ∙ c .before .before .before .before .before .before .before .before .before .before .before .before .before .before .before .before .before .if1 .left)
-    (rw (ne-eqb (x .watchdog .now) 0 (c .before .before .before .before .before .before .before .before .before .before .before .before .before .before .before .before .if2 .left), eq-eqb (x .watchdog .now) 1 (c .before .before .before .before .before .before .before .before .before .before .before .before .before .before .before .if3 .taken), c .one-more .ensures) (gone (onWatchdog false true (getD ws 0 0) (getD ws 1 0) (getD ws 2 0) l) l ws (rw (c .before .before .before .before .before .before .before .before .before .switch2 .ensures, c .before .before .before .before .before .before .before .before .before .before .switch .ensures) at (c .before .before .before .before .before .before .accessed .ensures (length ws) (le-leb 3 (length ws) (c .before .before .before .before .before .before .before .before .before .before .before .before .before .before .if4 .left)))) (c .before .before .if5 .left) refl))
-
-returns-6 : tie.Need-returns-6
-returns-6 c =
     λ a d.
     let x = c .before .before .before .before .before .before .before .before .args in
     let ws = x .words .now in
     let l = linkAt a (x .watchdog .now) (x .index) (x .length) (x .errors .now) (x .length-write-read) d in
     outcome-of executeWatchdog ws l (sym (c .before .before .before .before .impossible .ensures) ∙ c .before .before .before .if1 .left)
-    (rw (ne-eqb (x .watchdog .now) 0 (c .before .before .if2 .left), ne-eqb (x .watchdog .now) 1 (c .before .if3 .left), c .refused4 .ensures) (bare (says 0 []) [] ws l (changed (withWatchdog (x .watchdog .now - 1) (common l)) l) refl refl refl refl))
+    (rw (ne-eqb (x .watchdog .now) 0 (c .before .before .if2 .left), ne-eqb (x .watchdog .now) 1 (c .before .if3 .left), c .refused3 .ensures) (bare (says 0 []) [] ws l (changed (withWatchdog (x .watchdog .now - 1) (common l)) l) refl refl refl refl))
 
 pub watchdog-fields-spec : {M : Type 1} → statement M
-watchdog-fields-spec = tie.close (tie.spec (λ c κs. tt) (λ c κs. tt) returns (λ c κs. tt) returns-2 (λ c κs. tt) returns-3 (λ c. search needs) (λ c. search needs) (λ c. search needs) (λ c κs. tt) (λ c κs. tt) (λ c. search needs) (λ c κs. tt) (λ c. search needs) returns-4 (λ c κs. tt) (λ c. search needs) returns-5 (λ c. search needs) (λ c κs. tt) returns-6)
+watchdog-fields-spec = tie.close (tie.spec (λ c κs. tt) (λ c κs. tt) returns (λ c κs. tt) returns-2 (λ c κs. tt) (λ c. search needs) returns-3 (λ c κs. tt) (λ c. search needs) returns-4 (λ c. search needs) (λ c κs. tt) returns-5)
