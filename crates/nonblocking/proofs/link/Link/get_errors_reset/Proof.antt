@@ -20,7 +20,7 @@ returns-2 c =
     λ words log.
     let x = model (c .before .before .before .args .self) in
     outcome-of getErrorsReset words x (sym (c .before .before .impossible .ensures) ∙ c .before .if1 .left)
-    (rw (c .refused2 .ensures) (bare (says 0x45 (x .errors ∷ [])) [] words x (linkOf (common x) 0 (x .«length_write_read») (x .«data»)) refl refl refl refl))
+    (rw (c .told .ensures) (bare (says 0x45 (x .errors ∷ [])) [] words x (linkOf (common x) 0 (x .«length_write_read») (x .«data»)) refl refl refl refl))
 
 pub get-errors-reset-spec : {M : Type 1} → statement M
 get-errors-reset-spec = tie.close (tie.spec (λ c κs. tt) (λ c κs. tt) returns (λ c κs. tt) returns-2)
