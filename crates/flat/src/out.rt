@@ -8,52 +8,48 @@ use six::fill;
 pub fn put(report: Report, out: &mut [u64; 6])
     ensures { λ _. ⌜ now (out .exit) ≡ flat report ⌝ }
 {
-    *out = numbers_of(report);
-}
-
-fn numbers_of(report: Report) -> [u64; 6]
-    ensures { λ r. ⌜ r ≡ flat report ⌝ }
-{
-    let taken = report.taken as u64;
-    let logged = report.logged as u64;
+    let taken = report.taken;
+    let logged = report.logged;
     let answer = report.answer;
     match answer {
-        Answer::Done => [0, taken, logged, 0, 0, 0],
-        Answer::Pending => [1, taken, logged, 0, 0, 0],
-        Answer::Nack => [2, taken, logged, 0, 0, 0],
-        Answer::BusError => [3, taken, logged, 0, 0, 0],
-        Answer::ArbitrationLost => [4, taken, logged, 0, 0, 0],
-        Answer::IncorrectFrameSize(count) => [5, taken, logged, count as u64, 0, 0],
-        Answer::BadLength => [6, taken, logged, 0, 0, 0],
-        Answer::NoRate => [7, taken, logged, 0, 0, 0],
-        Answer::BadFilter => [8, taken, logged, 0, 0, 0],
-        Answer::OutOfWords => [9, taken, logged, 0, 0, 0],
-        Answer::LogFull => [10, taken, logged, 0, 0, 0],
-        Answer::WrongCall => [11, taken, logged, 0, 0, 0],
-        Answer::ImpossibleLink => [12, taken, logged, 0, 0, 0],
+        Answer::Done => fill(out, 0, taken, logged, 0, 0, 0),
+        Answer::Pending => fill(out, 1, taken, logged, 0, 0, 0),
+        Answer::Nack => fill(out, 2, taken, logged, 0, 0, 0),
+        Answer::BusError => fill(out, 3, taken, logged, 0, 0, 0),
+        Answer::ArbitrationLost => fill(out, 4, taken, logged, 0, 0, 0),
+        Answer::IncorrectFrameSize(count) => fill(out, 5, taken, logged, count, 0, 0),
+        Answer::BadLength => fill(out, 6, taken, logged, 0, 0, 0),
+        Answer::NoRate => fill(out, 7, taken, logged, 0, 0, 0),
+        Answer::BadFilter => fill(out, 8, taken, logged, 0, 0, 0),
+        Answer::OutOfWords => fill(out, 9, taken, logged, 0, 0, 0),
+        Answer::LogFull => fill(out, 10, taken, logged, 0, 0, 0),
+        Answer::WrongCall => fill(out, 11, taken, logged, 0, 0, 0),
+        Answer::ImpossibleLink => fill(out, 12, taken, logged, 0, 0, 0),
         Answer::Data {
             address,
             direction,
             count,
-        } => [
+        } => fill(
+            out,
             0x44,
             taken,
             logged,
-            address as u64,
-            direction.number() as u64,
-            count as u64,
-        ],
-        Answer::Addressed { address, direction } => [
+            address as usize,
+            direction.number() as usize,
+            count,
+        ),
+        Answer::Addressed { address, direction } => fill(
+            out,
             0x41,
             taken,
             logged,
-            address as u64,
-            direction.number() as u64,
+            address as usize,
+            direction.number() as usize,
             0,
-        ],
-        Answer::Errors(count) => [0x45, taken, logged, count as u64, 0, 0],
-        Answer::Address(address) => [0x4E, taken, logged, address as u64, 0, 0],
-        Answer::Bytes(count) => [0x47, taken, logged, count as u64, 0, 0],
+        ),
+        Answer::Errors(count) => fill(out, 0x45, taken, logged, count as usize, 0, 0),
+        Answer::Address(address) => fill(out, 0x4E, taken, logged, address as usize, 0, 0),
+        Answer::Bytes(count) => fill(out, 0x47, taken, logged, count, 0, 0),
     }
 }
 
@@ -105,10 +101,33 @@ pub fn put_checked(report: Report, out: &mut [u64; 6])
         Answer::Nack => fill(out, 2, taken, logged, 0, 0, 0),
         Answer::BusError => fill(out, 3, taken, logged, 0, 0, 0),
         Answer::ArbitrationLost => fill(out, 4, taken, logged, 0, 0, 0),
+        Answer::IncorrectFrameSize(count) => fill(out, 5, taken, logged, count, 0, 0),
         Answer::OutOfWords => fill(out, 9, taken, logged, 0, 0, 0),
         Answer::LogFull => fill(out, 10, taken, logged, 0, 0, 0),
         Answer::ImpossibleLink => fill(out, 12, taken, logged, 0, 0, 0),
-        _ => put_valued(report, out),
+        Answer::Data {
+            address,
+            direction,
+            count,
+        } => fill(
+            out,
+            0x44,
+            taken,
+            logged,
+            address as usize,
+            direction.number() as usize,
+            count,
+        ),
+        Answer::Addressed { address, direction } => fill(
+            out,
+            0x41,
+            taken,
+            logged,
+            address as usize,
+            direction.number() as usize,
+            0,
+        ),
+        _ => put(report, out),
     }
 }
 
@@ -138,35 +157,10 @@ pub fn put_ran(report: Report, out: &mut [u64; 6])
         Answer::Nack => fill(out, 2, taken, logged, 0, 0, 0),
         Answer::BusError => fill(out, 3, taken, logged, 0, 0, 0),
         Answer::ArbitrationLost => fill(out, 4, taken, logged, 0, 0, 0),
+        Answer::IncorrectFrameSize(count) => fill(out, 5, taken, logged, count, 0, 0),
         Answer::OutOfWords => fill(out, 9, taken, logged, 0, 0, 0),
         Answer::LogFull => fill(out, 10, taken, logged, 0, 0, 0),
         Answer::WrongCall => fill(out, 11, taken, logged, 0, 0, 0),
-        _ => put_valued(report, out),
-    }
-}
-
-// The answers with values that a check or a run gives.
-fn put_valued(report: Report, out: &mut [u64; 6])
-    ensures { λ _. ⌜ now (out .exit) ≡ flat report ⌝ }
-{
-    let taken = report.taken;
-    let logged = report.logged;
-    let answer = report.answer;
-    match answer {
-        Answer::IncorrectFrameSize(count) => fill(out, 5, taken, logged, count, 0, 0),
-        Answer::Data {
-            address,
-            direction,
-            count,
-        } => fill(
-            out,
-            0x44,
-            taken,
-            logged,
-            address as usize,
-            direction.number() as usize,
-            count,
-        ),
         Answer::Addressed { address, direction } => fill(
             out,
             0x41,

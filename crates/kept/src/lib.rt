@@ -18,14 +18,13 @@ pub fn lay(call: Parked, kept: &mut [u64; 7])
 {
     let kind = call.kind;
     let phase = call.phase;
-    let marks = phase_marks(phase);
     *kept = [
         kind_number(kind),
         call.address as u64,
         call.send as u64,
         call.receive as u64,
-        marks[0],
-        marks[1],
+        phase_number(phase),
+        phase_word(phase),
         call.count as u64,
     ];
 }
@@ -44,57 +43,111 @@ fn kind_number(kind: Kind) -> u64
     }
 }
 
-// The number of a phase, and the word that it remembers, 0 where it has none.
-fn phase_marks(phase: Phase) -> [u64; 2]
-    ensures { λ r. ⌜ r ≡ phaseNumber phase ∷ phaseWord phase ∷ [] ⌝ }
-{
-    match phase {
-        Phase::Open(opening) => opening_marks(opening),
-        Phase::Wait => [8, 0],
-        Phase::Transfer => [9, 0],
-        Phase::Restart => [10, 0],
-        Phase::Stretched => [11, 0],
-        Phase::Refuse(word) => [12, word as u64],
-        Phase::ClearBerr => [13, 0],
-        Phase::ClearArlo => [14, 0],
-        Phase::ClearNackf => [15, 0],
-        Phase::ClearStopf => [16, 0],
-        Phase::FlushTxis => [17, 0],
-        Phase::FlushDummy => [18, 0],
-        Phase::FlushTxe => [19, 0],
-        Phase::FlushEmpty => [20, 0],
-        Phase::Listen => [21, 0],
-        Phase::Code => [22, 0],
-        Phase::Ended(end) => end_marks(end),
-    }
-}
-
-fn opening_marks(opening: Opening) -> [u64; 2]
-    ensures { λ r. ⌜ r ≡ openingNumber opening ∷ openingWord opening ∷ [] ⌝ }
+fn opening_number(opening: Opening) -> u64
+    ensures { λ r. ⌜ r ≡ openingNumber opening ⌝ }
 {
     match opening {
-        Opening::Start => [0, 0],
-        Opening::Drain => [1, 0],
-        Opening::Modify => [2, 0],
-        Opening::Setup(word) => [3, word as u64],
-        Opening::Flush => [4, 0],
-        Opening::Release => [5, 0],
-        Opening::Probe => [6, 0],
-        Opening::Drop => [7, 0],
+        Opening::Start => 0,
+        Opening::Drain => 1,
+        Opening::Modify => 2,
+        Opening::Setup(_) => 3,
+        Opening::Flush => 4,
+        Opening::Release => 5,
+        Opening::Probe => 6,
+        Opening::Drop => 7,
     }
 }
 
-fn end_marks(end: End) -> [u64; 2]
-    ensures { λ r. ⌜ r ≡ endNumber end ∷ endWord end ∷ [] ⌝ }
+fn end_number(end: End) -> u64
+    ensures { λ r. ⌜ r ≡ endNumber end ⌝ }
 {
     match end {
-        End::OutOfWords => [23, 0],
-        End::LogFull => [24, 0],
-        End::BadLength => [25, 0],
-        End::Berr => [26, 0],
-        End::Arlo => [27, 0],
-        End::Addr => [28, 0],
-        End::Stopf => [29, 0],
-        End::Addressed(word) => [30, word as u64],
+        End::OutOfWords => 23,
+        End::LogFull => 24,
+        End::BadLength => 25,
+        End::Berr => 26,
+        End::Arlo => 27,
+        End::Addr => 28,
+        End::Stopf => 29,
+        End::Addressed(_) => 30,
+    }
+}
+
+fn phase_number(phase: Phase) -> u64
+    ensures { λ r. ⌜ r ≡ phaseNumber phase ⌝ }
+{
+    match phase {
+        Phase::Open(opening) => opening_number(opening),
+        Phase::Wait => 8,
+        Phase::Transfer => 9,
+        Phase::Restart => 10,
+        Phase::Stretched => 11,
+        Phase::Refuse(_) => 12,
+        Phase::ClearBerr => 13,
+        Phase::ClearArlo => 14,
+        Phase::ClearNackf => 15,
+        Phase::ClearStopf => 16,
+        Phase::FlushTxis => 17,
+        Phase::FlushDummy => 18,
+        Phase::FlushTxe => 19,
+        Phase::FlushEmpty => 20,
+        Phase::Listen => 21,
+        Phase::Code => 22,
+        Phase::Ended(end) => end_number(end),
+    }
+}
+
+// The word that a phase remembers, 0 where it has none.
+fn opening_word(opening: Opening) -> u64
+    ensures { λ r. ⌜ r ≡ openingWord opening ⌝ }
+{
+    match opening {
+        Opening::Start => 0,
+        Opening::Drain => 0,
+        Opening::Modify => 0,
+        Opening::Setup(word) => word as u64,
+        Opening::Flush => 0,
+        Opening::Release => 0,
+        Opening::Probe => 0,
+        Opening::Drop => 0,
+    }
+}
+
+fn end_word(end: End) -> u64
+    ensures { λ r. ⌜ r ≡ endWord end ⌝ }
+{
+    match end {
+        End::OutOfWords => 0,
+        End::LogFull => 0,
+        End::BadLength => 0,
+        End::Berr => 0,
+        End::Arlo => 0,
+        End::Addr => 0,
+        End::Stopf => 0,
+        End::Addressed(word) => word as u64,
+    }
+}
+
+fn phase_word(phase: Phase) -> u64
+    ensures { λ r. ⌜ r ≡ phaseWord phase ⌝ }
+{
+    match phase {
+        Phase::Open(opening) => opening_word(opening),
+        Phase::Wait => 0,
+        Phase::Transfer => 0,
+        Phase::Restart => 0,
+        Phase::Stretched => 0,
+        Phase::Refuse(word) => word as u64,
+        Phase::ClearBerr => 0,
+        Phase::ClearArlo => 0,
+        Phase::ClearNackf => 0,
+        Phase::ClearStopf => 0,
+        Phase::FlushTxis => 0,
+        Phase::FlushDummy => 0,
+        Phase::FlushTxe => 0,
+        Phase::FlushEmpty => 0,
+        Phase::Listen => 0,
+        Phase::Code => 0,
+        Phase::Ended(end) => end_word(end),
     }
 }

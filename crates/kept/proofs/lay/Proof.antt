@@ -8,8 +8,7 @@ lay-spec =
     tie.close
     (tie.spec
     (λ c κs. search needs)
+    (λ c. search needs)
     (λ c κs. search needs)
-    (λ c. search needs)
-    (λ c. search needs)
-    (λ c. search needs)
-    (λ c. rw (c .before .before .kind-number .ensures, c .before .before .before .phase-marks .ensures)))
+    (λ c κs. search needs)
+    (λ c. rw (c .before .before .before .before .kind-number .ensures, c .before .before .phase-number .ensures, c .before .phase-word .ensures)))

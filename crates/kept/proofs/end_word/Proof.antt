@@ -1,10 +1,10 @@
--- `kept::end_marks` meets its contract: each arm returns the number and the word of its end.
+-- `kept::end_word` meets its contract: each arm returns the word of its end.
 use borrow.Author.Needs.{needs}
-use Rattle.kept.proofs.end_marks.Statement.{statement}
-use Rattle.kept.proofs.end_marks.Tie as tie
+use Rattle.kept.proofs.end_word.Statement.{statement}
+use Rattle.kept.proofs.end_word.Tie as tie
 
-pub end-marks-spec : {M : Type 1} → statement M
-end-marks-spec =
+pub end-word-spec : {M : Type 1} → statement M
+end-word-spec =
     tie.close
     (tie.spec
     (λ c. search needs)

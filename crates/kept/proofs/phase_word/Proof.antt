@@ -1,13 +1,17 @@
--- `flat::out::numbers_of` meets its contract: each arm returns the numbers of its answer.
+-- `kept::phase_word` meets its contract: each arm returns the word of its phase.
 use borrow.Author.Needs.{needs}
-use Rattle.flat.proofs.out.numbers_of.Statement.{statement}
-use Rattle.flat.proofs.out.numbers_of.Tie as tie
+use Rattle.kept.proofs.phase_word.Statement.{statement}
+use Rattle.kept.proofs.phase_word.Tie as tie
 
-pub numbers-of-spec : {M : Type 1} → statement M
-numbers-of-spec =
+pub phase-word-spec : {M : Type 1} → statement M
+phase-word-spec =
     tie.close
     (tie.spec
     (λ c. search needs)
+    (λ c κs. search needs)
+    (λ c. search needs)
+    (λ c. search needs)
+    (λ c. search needs)
     (λ c. search needs)
     (λ c. search needs)
     (λ c. search needs)
@@ -23,22 +27,13 @@ numbers-of-spec =
     (λ c. search needs)
     (λ c. search needs)
     (λ c κs. search needs)
-    (λ c. search needs)
-    (λ c. search needs)
-    (λ c. search needs)
-    (λ c κs. search needs)
-    (λ c. search needs)
-    (λ c. search needs)
-    (λ c. search needs)
-    (λ c. search needs)
-    (λ c. search needs)
-    (λ c. search needs)
+    (λ c. rw (c .before .before .phase .given .1) (c .opening-word .ensures))
     (λ c. rw (c .enum-told .given .1))
     (λ c. rw (c .enum-told2 .given .1))
     (λ c. rw (c .enum-told3 .given .1))
     (λ c. rw (c .enum-told4 .given .1))
+    (λ c. rw (c .before .phase2 .given .1))
     (λ c. rw (c .enum-told5 .given .1))
-    (λ c. rw (c .before .answer .given .1))
     (λ c. rw (c .enum-told6 .given .1))
     (λ c. rw (c .enum-told7 .given .1))
     (λ c. rw (c .enum-told8 .given .1))
@@ -46,8 +41,6 @@ numbers-of-spec =
     (λ c. rw (c .enum-told10 .given .1))
     (λ c. rw (c .enum-told11 .given .1))
     (λ c. rw (c .enum-told12 .given .1))
-    (λ c. rw (c .before .before .answer2 .given .1, c .number .ensures))
-    (λ c. rw (c .before .before .answer3 .given .1, c .number2 .ensures))
-    (λ c. rw (c .before .answer4 .given .1))
-    (λ c. rw (c .before .answer5 .given .1))
-    (λ c. rw (c .before .answer6 .given .1)))
+    (λ c. rw (c .enum-told13 .given .1))
+    (λ c. rw (c .enum-told14 .given .1))
+    (λ c. rw (c .before .before .phase3 .given .1) (c .end-word .ensures)))

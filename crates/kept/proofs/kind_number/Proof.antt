@@ -1,0 +1,23 @@
+-- `kept::kind_number` meets its contract: each arm returns the number of its kind.
+use borrow.Author.Needs.{needs}
+use Rattle.kept.proofs.kind_number.Statement.{statement}
+use Rattle.kept.proofs.kind_number.Tie as tie
+
+pub kind-number-spec : {M : Type 1} → statement M
+kind-number-spec =
+    tie.close
+    (tie.spec
+    (λ c. search needs)
+    (λ c. search needs)
+    (λ c. search needs)
+    (λ c. search needs)
+    (λ c. search needs)
+    (λ c. search needs)
+    (λ c. search needs)
+    (λ c. rw (c .enum-told .given .1))
+    (λ c. rw (c .enum-told2 .given .1))
+    (λ c. rw (c .enum-told3 .given .1))
+    (λ c. rw (c .enum-told4 .given .1))
+    (λ c. rw (c .enum-told5 .given .1))
+    (λ c. rw (c .enum-told6 .given .1))
+    (λ c. rw (c .enum-told7 .given .1)))
