@@ -10,8 +10,9 @@ use blocking::slave::slave_write;
 use parked::Parked;
 use script::calls::*;
 
-// A call begun.
-fn begun(
+// A call begun, or the parked one resumed, with the slices that it has from now on.
+pub(crate) fn run_call(
+    parked: Parked,
     call: Call,
     address: u8,
     send: &[u8],
@@ -25,22 +26,7 @@ fn begun(
         BL_WRITE_READ => write_read(address, send, recv, words, log),
         BL_SLAVE_WRITE => slave_write(send, words, log),
         BL_SLAVE_READ => slave_read(recv, words, log),
-        _ => slave_wait_addressed(words, log),
-    }
-}
-
-// A call begun, or the parked one resumed, with the slices that it has from now on.
-pub(crate) fn waiting_run(
-    parked: Parked,
-    call: Call,
-    address: u8,
-    send: &[u8],
-    recv: &mut [u8],
-    words: &[u32],
-    log: &mut [u32],
-) -> Ran {
-    match call {
-        BL_RESUME => resume(parked, 0, send, recv, words, log),
-        _ => begun(call, address, send, recv, words, log),
+        BL_SLAVE_WAIT_ADDRESSED => slave_wait_addressed(words, log),
+        _ => resume(parked, 0, send, recv, words, log),
     }
 }

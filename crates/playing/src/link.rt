@@ -82,25 +82,18 @@ fn construct(link: Link, slots: &Slots, words: &[u32], log: &mut [u32]) -> Calle
     }
 }
 
-// The calls that make no access, and `nb reset`.
-fn told(link: Link, call: Call) -> Called {
-    match call {
-        NB_ERRORS => link.get_errors_reset(),
-        NB_DATA_M => link.master_get_data(),
-        NB_DATA_S => link.slave_get_data(),
-        NB_ADDR_M | NB_ADDR_S => link.get_address(),
-        _ => put(Link::new()),
-    }
-}
-
-// The calls that take no more than the words.
+// The calls that take no more than the words, those that make no access, and `nb reset`.
 fn simple(link: Link, call: Call, words: &[u32], log: &mut [u32]) -> Called {
     match call {
         NB_CHECK => link.check_isr_flags(words, log),
         NB_WATCHDOG => link.execute_watchdog(words, log),
         NB_LISTEN => link.listen(words, log),
         NB_UNLISTEN => link.unlisten(words, log),
-        _ => told(link, call),
+        NB_ERRORS => link.get_errors_reset(),
+        NB_DATA_M => link.master_get_data(),
+        NB_DATA_S => link.slave_get_data(),
+        NB_ADDR_M | NB_ADDR_S => link.get_address(),
+        _ => put(Link::new()),
     }
 }
 

@@ -15,19 +15,11 @@ use print::answer::Told;
 use script::calls::*;
 use script::slots::*;
 
-fn event(number: u64) -> Event {
-    if number == 0 {
+fn event(slots: &Slots) -> Event {
+    if number(slots, EVENT) == 0 {
         Event::AddressMatch
     } else {
         Event::Rxne
-    }
-}
-
-fn call_event(call: Call, event: Event, words: &[u32], log: &mut [u32]) -> Report {
-    match call {
-        BL_LISTEN => listen(event, words, log),
-        BL_UNLISTEN => unlisten(event, words, log),
-        _ => clear_irq(event, log),
     }
 }
 
@@ -46,7 +38,9 @@ fn unwaited_call(call: Call, slots: &Slots, words: &[u32], log: &mut [u32]) -> R
         BL_NEW => construct(slots, words, log),
         BL_SLAVE_ADDRESSED => slave_addressed(words, log),
         BL_SBC => slave_sbc(number(slots, SBC) != 0, words, log),
-        _ => call_event(call, event(number(slots, EVENT)), words, log),
+        BL_LISTEN => listen(event(slots), words, log),
+        BL_UNLISTEN => unlisten(event(slots), words, log),
+        _ => clear_irq(event(slots), log),
     }
 }
 

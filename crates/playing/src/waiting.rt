@@ -1,6 +1,6 @@
 // A line of a blocking call that waits.
 use crate::Kept;
-use crate::begun::waiting_run;
+use crate::begun::run_call;
 use crate::line::least;
 use blocking::Ran;
 use parked::Parked;
@@ -23,7 +23,7 @@ fn play(
     log: &mut [u32],
 ) -> Ran {
     let received = least(received, recv.len());
-    waiting_run(
+    run_call(
         parked,
         call,
         address,
