@@ -2,8 +2,7 @@
 ghost use Prim.Native.Nat.{_<_};
 use crate::Bytes;
 use crate::Number;
-use crate::numbers::decimal;
-use crate::numbers::hex;
+use crate::OVER;
 use crate::numbers::number;
 use crate::tokens::part;
 use crate::tokens::which;
@@ -13,57 +12,57 @@ fn byte(pairs: &[u8], place: usize) -> Number
     requires { ⌜ place < 16384 ⌝ }
 {
     if pairs.len() == 2 {
-        return number(pairs, hex(0xFF));
+        return number(pairs, 16, 0xFF);
     }
-    number(part(pairs, 2 * place, 2 * place + 2), hex(0xFF))
+    number(part(pairs, 2 * place, 2 * place + 2), 16, 0xFF)
 }
 
 // Writes the bytes of the pairs into the first places. Answers how many.
-fn fill(pairs: &[u8], count: usize, out: &mut Bytes) -> Number {
+fn fill(pairs: &[u8], count: usize, out: &mut Bytes) -> usize {
     let mut i: usize = 0;
     while i < count {
         if 16_384 <= i {
-            return Number::None;
+            return OVER;
         }
         let Number::Value(byte) = byte(pairs, i) else {
-            return Number::None;
+            return OVER;
         };
         out[i] = (byte % 0x100) as u8;
         i += 1;
     }
-    Number::Value(count as u64)
+    count
 }
 
-fn repeated(token: &[u8], top: u64, out: &mut Bytes) -> Number {
-    let Number::Value(count) = number(part(token, 3, token.len()), decimal(top)) else {
-        return Number::None;
+fn repeated(token: &[u8], top: u64, out: &mut Bytes) -> usize {
+    let Number::Value(count) = number(part(token, 3, token.len()), 10, top) else {
+        return OVER;
     };
     let pair = part(token, 0, 2);
     // Also a pair that stands nowhere has to be one.
-    let Number::Value(_) = number(pair, hex(0xFF)) else {
-        return Number::None;
+    let Number::Value(_) = number(pair, 16, 0xFF) else {
+        return OVER;
     };
     fill(pair, count as usize, out)
 }
 
-fn pairs(token: &[u8], top: u64, out: &mut Bytes) -> Number {
+fn pairs(token: &[u8], top: u64, out: &mut Bytes) -> usize {
     let count = token.len() / 2;
     if token.len() % 2 == 1 {
-        return Number::None;
+        return OVER;
     }
     if top < count as u64 {
-        return Number::None;
+        return OVER;
     }
     if count == 0 {
-        return Number::None;
+        return OVER;
     }
     fill(token, count, out)
 }
 
-// The bytes into the lent array, and their number.
-pub(crate) fn bytes(token: &[u8], top: u64, out: &mut Bytes) -> Number {
+// The bytes into the lent array, and their number, or `OVER` where the token is none.
+pub(crate) fn bytes(token: &[u8], top: u64, out: &mut Bytes) -> usize {
     if which(token, b"- ", 0) == 0 {
-        return Number::Value(0);
+        return 0;
     }
     if 3 < token.len() {
         if token[2] == b'x' {

@@ -49,14 +49,6 @@ fn counted(line: &Text, count: usize) -> usize {
     if line[0] == b'#' { 0 } else { count }
 }
 
-// A line that ends with the input; nothing at all is none.
-fn last(line: &Text, count: usize) -> usize {
-    if count == 0 {
-        return NO_LINE;
-    }
-    counted(line, count)
-}
-
 // The next line, as the number of its characters, without the newline. The rest of one that is too long is passed over.
 pub fn next_line(
     buffer: &mut [u8; 4096],
@@ -70,7 +62,11 @@ pub fn next_line(
     while 0 < turns {
         let byte = next_byte(buffer, at, end);
         if byte == NO_BYTE {
-            return last(line, count);
+            // Nothing at all is no line.
+            if count == 0 {
+                return NO_LINE;
+            }
+            return counted(line, count);
         }
         if byte == NEWLINE {
             return counted(line, count);

@@ -1,9 +1,7 @@
 // The values of a call: its arguments by their place, and the options after them.
 use crate::Number;
+use crate::OVER;
 use crate::calls::*;
-use crate::numbers::Form;
-use crate::numbers::decimal;
-use crate::numbers::hex;
 use crate::numbers::masked;
 use crate::numbers::number;
 use crate::slots::*;
@@ -13,9 +11,9 @@ use crate::tokens::part;
 use crate::tokens::skip;
 use crate::tokens::which;
 
-// The slots of a call's arguments.
-fn arguments(call: Call) -> [usize; 3] {
-    match call {
+// The slot of a call's argument at a place.
+fn argument(call: Call, place: usize) -> usize {
+    let slots = match call {
         NB_MASTER_WRITE => [ADDRESS_16, SEND, NONE],
         NB_MASTER_WRITE_READ => [ADDRESS_16, SEND, LENGTH],
         NB_MASTER_READ => [ADDRESS_16, LENGTH, NONE],
@@ -31,11 +29,7 @@ fn arguments(call: Call) -> [usize; 3] {
         CFG_FILTER => [CYCLES, NONE, NONE],
         CFG_PERIOD => [PERIOD, NONE, NONE],
         _ => [NONE, NONE, NONE],
-    }
-}
-
-fn argument(call: Call, place: usize) -> usize {
-    let slots = arguments(call);
+    };
     if place < 3 { slots[place] } else { NONE }
 }
 
@@ -78,26 +72,44 @@ fn asked(call: Call, place: usize, key: &[u8]) -> usize {
     NONE
 }
 
-// How the number of a slot is written.
-fn form(slot: usize) -> Form {
-    match slot {
-        LOG | WATCHDOG => decimal(0xFFFF),
-        INDEX | COUNT | SECOND_HALF => decimal(0xFFFF_FFFF_FFFF_FFFF),
-        ERRORS | SPEED | CLOCK => decimal(0xFFFF_FFFF),
-        FILTER | DNF | CYCLES | LENGTH => decimal(0xFF),
-        OWN_7 | ADDRESS_8 => hex(0xFF),
-        TIMING | PERIOD => hex(0xFFFF_FFFF),
-        ANALOG => one_digit(0),
-        SBC => one_digit(1),
-        _ => hex(0xFFFF),
-    }
+// How the number of a slot is written: its base, and up to which one.
+struct Form {
+    pub base: u64,
+    pub top: u64,
 }
 
-fn one_digit(top: u64) -> Form {
-    Form {
-        base: 10,
-        digits: 1,
-        top,
+fn form_of(slot: usize) -> Form {
+    match slot {
+        LOG | WATCHDOG => Form {
+            base: 10,
+            top: 0xFFFF,
+        },
+        INDEX | COUNT | SECOND_HALF => Form {
+            base: 10,
+            top: 0xFFFF_FFFF_FFFF_FFFF,
+        },
+        ERRORS | SPEED | CLOCK => Form {
+            base: 10,
+            top: 0xFFFF_FFFF,
+        },
+        FILTER | DNF | CYCLES | LENGTH => Form {
+            base: 10,
+            top: 0xFF,
+        },
+        OWN_7 | ADDRESS_8 => Form {
+            base: 16,
+            top: 0xFF,
+        },
+        TIMING | PERIOD => Form {
+            base: 16,
+            top: 0xFFFF_FFFF,
+        },
+        ANALOG => Form { base: 2, top: 0 },
+        SBC => Form { base: 2, top: 1 },
+        _ => Form {
+            base: 16,
+            top: 0xFFFF,
+        },
     }
 }
 
@@ -117,7 +129,10 @@ fn read(slot: usize, token: &[u8], place: usize) -> Number {
         EVENT => event(token),
         DATA | SEND | RECV => Number::Value(place as u64),
         NONE => Number::None,
-        _ => number(token, form(slot)),
+        _ => {
+            let form = form_of(slot);
+            number(token, form.base, form.top)
+        }
     }
 }
 
@@ -143,9 +158,6 @@ fn keep(
     };
     put(slots, slot, number)
 }
-
-// More than any place of a line.
-pub(crate) const OVER: usize = 18_446_744_073_709_551_615;
 
 // Where a call ends, if it lacks no argument.
 fn call_end(call: Call, place: usize, at: usize) -> usize {

@@ -20,3 +20,6 @@ pub enum Number {
     None,
     Value(u64),
 }
+
+// More than any place of a line and any number of bytes: there is none.
+const OVER: usize = 18_446_744_073_709_551_615;

@@ -1,14 +1,14 @@
 // From a line to its call.
 use crate::Bytes;
 use crate::Number;
+use crate::OVER;
 use crate::Words;
 use crate::bytes::bytes;
 use crate::calls::BAD_LINE;
 use crate::calls::Call;
 use crate::calls::call_of;
-use crate::items::OVER;
 use crate::items::keep_items;
-use crate::numbers::word as word_of;
+use crate::numbers::number as number_of;
 use crate::slots::*;
 use crate::tokens::find;
 use crate::tokens::part;
@@ -16,7 +16,7 @@ use crate::tokens::skip;
 
 // The word that a token is, into its place.
 fn keep_word(token: &[u8], words: &mut Words, place: usize) -> bool {
-    let Number::Value(word) = word_of(token) else {
+    let Number::Value(word) = number_of(token, 16, 0xFFFF_FFFF) else {
         return false;
     };
     if place < 4096 {
@@ -63,41 +63,30 @@ fn compatible(slots: &Slots) -> bool {
     true
 }
 
-// The most bytes that `data=` and any other BYTES can give.
-const MOST_DATA: u64 = 255;
+// The most bytes that a slot can have.
+fn most(slot: usize) -> u64 {
+    if slot == DATA { 255 } else { 16_384 }
+}
 
-const MOST: u64 = 16_384;
-
-// The bytes of a slot, if it was given, into the array, and how many.
-fn read_bytes(line: &[u8], slots: &Slots, slot: usize, top: u64, out: &mut Bytes) -> Number {
+// The bytes that a line gives for a slot, into the array. Answers how many, or `OVER` where they are no bytes.
+pub fn bytes_of(line: &[u8], slots: &Slots, slot: usize, out: &mut Bytes) -> usize {
     if has(slots, slot) {
         let start = number(slots, slot) as usize;
-        return bytes(part(line, start, find(line, b' ', start)), top, out);
+        return bytes(part(line, start, find(line, b' ', start)), most(slot), out);
     }
-    Number::Value(0)
+    0
 }
 
-fn are_bytes(line: &[u8], slots: &Slots, slot: usize, top: u64) -> bool {
+fn are_bytes(line: &[u8], slots: &Slots, slot: usize) -> bool {
     let mut out = [0u8; 16384];
-    let Number::Value(_) = read_bytes(line, slots, slot, top, &mut out) else {
-        return false;
-    };
-    true
-}
-
-// The bytes that a parsed line gives for a slot, into the array. Answers how many.
-pub fn bytes_of(line: &[u8], slots: &Slots, slot: usize, out: &mut Bytes) -> usize {
-    let Number::Value(count) = read_bytes(line, slots, slot, MOST, out) else {
-        return 0;
-    };
-    count as usize
+    bytes_of(line, slots, slot, &mut out) != OVER
 }
 
 // Whether the values that a line gives go together and its BYTES are bytes.
 fn is_sound(line: &[u8], slots: &Slots) -> bool {
-    if are_bytes(line, slots, DATA, MOST_DATA) {
-        if are_bytes(line, slots, SEND, MOST) {
-            if are_bytes(line, slots, RECV, MOST) {
+    if are_bytes(line, slots, DATA) {
+        if are_bytes(line, slots, SEND) {
+            if are_bytes(line, slots, RECV) {
                 return compatible(slots);
             }
         }

@@ -57,10 +57,6 @@ fn agree(token: &[u8], count: usize, byte: u8) -> usize {
 
 pub(crate) const NO_NAME: usize = 1000;
 
-fn one_more(n: usize) -> usize {
-    if n < NO_NAME { n + 1 } else { n }
-}
-
 // Which of the names the token is, the first one having the given number. A space ends each name.
 pub(crate) fn which(token: &[u8], names: &[u8], first: usize) -> usize {
     let mut index = first;
@@ -71,7 +67,8 @@ pub(crate) fn which(token: &[u8], names: &[u8], first: usize) -> usize {
             if count == token.len() {
                 return index;
             }
-            index = one_more(index);
+            // There are fewer names.
+            index = index % NO_NAME + 1;
             count = 0;
         } else {
             count = agree(token, count, names[i]);

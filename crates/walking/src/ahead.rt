@@ -3,7 +3,7 @@ use script::Number;
 use script::Text;
 use script::input::NO_LINE;
 use script::input::next_line;
-use script::numbers::word;
+use script::numbers::number;
 use script::tokens::part;
 
 // At most three: a call takes no more. `open` while no other line has come, `more` while the input has not ended.
@@ -17,7 +17,7 @@ pub(crate) struct Ahead {
 // What a line of so many characters is: a word is eight hex digits, in either case.
 fn line_word(line: &Text, count: usize) -> Number {
     if count == 8 {
-        return word(part(line, 0, 8));
+        return number(part(line, 0, 8), 16, 0xFFFF_FFFF);
     }
     Number::None
 }

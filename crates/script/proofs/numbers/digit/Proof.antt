@@ -4,32 +4,29 @@ use borrow.Author.Needs.{needs}
 use Rattle.script.proofs.numbers.digit.Statement.{statement}
 use Rattle.script.proofs.numbers.digit.Tie as tie
 
-wide-requires : tie.Need-wide-requires
-wide-requires c κs = search needs
+cast-result : tie.Need-cast-result
+cast-result c = search needs
 
 sub-result : tie.Need-sub-result
 sub-result c = search needs
 
-wide-requires-2 : tie.Need-wide-requires-2
-wide-requires-2 c κs = search needs
+cast-result-2 : tie.Need-cast-result-2
+cast-result-2 c = search needs
 
 sub-result-2 : tie.Need-sub-result-2
 sub-result-2 c = search needs
 
-wide-requires-3 : tie.Need-wide-requires-3
-wide-requires-3 c κs = search needs
-
-sub-result-3 : tie.Need-sub-result-3
-sub-result-3 c = search needs
+cast-result-3 : tie.Need-cast-result-3
+cast-result-3 c = search needs
 
 returns : tie.Need-returns
-returns c = (simp (le-ltb _ _ (c .before .before .if1 .left), lt-ltb _ _ (c .before .if2 .taken), c .wide .ensures), search needs)
+returns c = (simp (le-ltb _ _ (c .before .if1 .left), lt-ltb _ _ (c .if2 .taken)), search needs)
 
 returns-2 : tie.Need-returns-2
-returns-2 c = (simp (le-ltb _ _ (c .before .before .before .before .if1 .left), le-ltb _ _ (c .before .before .before .if2 .left), le-ltb _ _ (c .before .before .if3 .left), lt-ltb _ _ (c .before .if4 .taken), c .wide2 .ensures), search needs)
+returns-2 c = (simp (le-ltb _ _ (c .before .before .before .if1 .left), le-ltb _ _ (c .before .before .if2 .left), le-ltb _ _ (c .before .if3 .left), lt-ltb _ _ (c .if4 .taken)), search needs)
 
 returns-3 : tie.Need-returns-3
-returns-3 c = (simp (le-ltb _ _ (c .before .before .before .before .before .before .if1 .left), le-ltb _ _ (c .before .before .before .before .before .if2 .left), le-ltb _ _ (c .before .before .before .before .if3 .left), le-ltb _ _ (c .before .before .before .if4 .left), le-ltb _ _ (c .before .before .if5 .left), lt-ltb _ _ (c .before .if6 .taken), c .wide3 .ensures), search needs)
+returns-3 c = (simp (le-ltb _ _ (c .before .before .before .before .before .if1 .left), le-ltb _ _ (c .before .before .before .before .if2 .left), le-ltb _ _ (c .before .before .before .if3 .left), le-ltb _ _ (c .before .before .if4 .left), le-ltb _ _ (c .before .if5 .left), lt-ltb _ _ (c .if6 .taken)), search needs)
 
 returns-4 : tie.Need-returns-4
 returns-4 c = (simp (lt-ltb _ _ (c .if1 .taken)), search needs)
@@ -47,12 +44,11 @@ pub digit-spec : {M : Type 1} → statement M
 digit-spec =
     tie.close
     (tie.spec
-    wide-requires
+    cast-result
     sub-result
-    wide-requires-2
+    cast-result-2
     sub-result-2
-    wide-requires-3
-    sub-result-3
+    cast-result-3
     returns
     returns-2
     returns-3

@@ -20,8 +20,8 @@ shared-slice-read-if1 c = search needs
 returns : tie.Need-returns Inv-loop μ-loop
 returns c = search needs
 
-one-more-requires : tie.Need-one-more-requires Inv-loop μ-loop
-one-more-requires c κs = search needs
+add-index : tie.Need-add-index Inv-loop μ-loop
+add-index c = search needs
 
 shared-slice-read-agree : tie.Need-shared-slice-read-agree Inv-loop μ-loop
 shared-slice-read-agree c = search needs
@@ -50,7 +50,7 @@ which-spec =
     loop-holds
     shared-slice-read-if1
     returns
-    one-more-requires
+    add-index
     shared-slice-read-agree
     agree-requires
     add-i
