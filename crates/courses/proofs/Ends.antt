@@ -1,14 +1,12 @@
 -- Where a call that waits came to, and what a part says that it did.
 use Prim.Native.Nat.{ℕ, _≤_}
-use mathlib.Core.Path.{_≡_, refl, sym, subst}
+use mathlib.Core.Path.{_≡_, refl, sym}
 use mathlib.Core.Bool.{Bool, true, false}
 use mathlib.Core.List.{List}
 use native.Mathlib.Omega.{arith}
 use lib.ListN.{length, drop, length-drop}
-use Rattle.phases.specs.declared.End.{End}
 use Rattle.phases.specs.declared.End.the-variants.{OutOfWords, Stopf}
 use Rattle.phases.specs.declared.Phase.the-variants.{Wait, Transfer, Ended}
-use Rattle.phases.specs.Kinds.{incoming}
 use Rattle.parked.specs.declared.Next.the-variants.{Read}
 use Rattle.parked.specs.declared.Parked.{Parked}
 use Rattle.parked.specs.After.{answer}

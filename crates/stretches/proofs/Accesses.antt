@@ -12,8 +12,8 @@ use Rattle.parked.specs.declared.Parked.{Parked}
 use Rattle.parked.specs.After.{after}
 use Rattle.stretches.specs.declared.Turn.the-variants.{Again}
 use Rattle.stretches.specs.declared.Progress.{Progress}
-use Rattle.runs.specs.Run.{Outcome, joined, kept, next, runs}
-use Rattle.stretches.specs.Stretches.{Going, Carried}
+use Rattle.runs.specs.Run.{joined, kept, next, runs}
+use Rattle.stretches.specs.Stretches.{Carried}
 use Rattle.runs.proofs.OneAccess.{joined-joined, run-read, run-write}
 use Rattle.runs.proofs.Sound.{length-kept}
 

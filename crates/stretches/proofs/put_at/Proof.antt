@@ -1,5 +1,5 @@
 -- `stretches::put_at` meets its contract: after i turns the first i entries stand in the log.
-use mathlib.Core.Path.{_≡_, refl, sym, _∙_}
+use mathlib.Core.Path.{_≡_, refl, sym}
 use Prim.Native.Nat.{_≤_, _-_, _+_}
 use native.Mathlib.Omega.{arith}
 use native.Mathlib.Numerals.{add-one}

@@ -1,6 +1,4 @@
 -- `courses::closing::closed` meets its contract.
-use mathlib.Core.Path.{_≡_, refl, sym, ap, _∙_}
-use borrow.Author.Needs.{needs}
 use Rattle.courses.proofs.closing.closed.Statement.{statement}
 use Rattle.courses.proofs.closing.closed.Tie as tie
 

@@ -1,12 +1,11 @@
 -- `courses::closing::closing` meets its contract.
-use mathlib.Core.Path.{_≡_, refl, sym, ap, _∙_}
+use mathlib.Core.Path.{refl, ap, _∙_}
 use native.Mathlib.Omega.{arith}
-use lib.ListN.{length, getD, length-set}
-use Prim.Native.Nat.{ℕ, _+_, _-_, _≤_, _<_}
+use lib.ListN.{length, getD}
+use Prim.Native.Nat.{_+_, _-_, _≤_, _<_}
 use mathlib.Core.Bool.{cond}
 use Rattle.flags.specs.declared.Wanted.the-variants.{Txis, Rxne}
-use Rattle.phases.specs.declared.Phase.{Phase}
-use Rattle.phases.specs.declared.Phase.the-variants.{Wait, Transfer}
+use Rattle.phases.specs.declared.Phase.the-variants.{Wait}
 use Rattle.parked.proofs.Phases.{atPhase}
 use Rattle.phases.specs.declared.Kind.{Kind}
 use Rattle.phases.specs.Kinds.{incoming, restarts}

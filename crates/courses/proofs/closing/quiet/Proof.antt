@@ -1,5 +1,5 @@
 -- `courses::closing::quiet` meets its contract.
-use mathlib.Core.Path.{_≡_, refl, sym, ap, _∙_}
+use mathlib.Core.Path.{sym, _∙_}
 use Rattle.courses.proofs.Ends.{never}
 use borrow.Author.Needs.{needs}
 use Rattle.courses.proofs.closing.quiet.Statement.{statement}

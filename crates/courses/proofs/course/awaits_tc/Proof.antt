@@ -1,5 +1,4 @@
 -- `courses::course::awaits_tc` meets its contract.
-use mathlib.Core.Path.{_≡_, refl, sym, ap, _∙_}
 use Rattle.courses.proofs.Ends.{never}
 use borrow.Author.Needs.{needs}
 use Rattle.courses.proofs.course.awaits_tc.Statement.{statement}

@@ -1,8 +1,6 @@
 -- `courses::course::fits` meets its contract.
-use mathlib.Core.Path.{_≡_, refl, sym, ap, _∙_}
 use Rattle.courses.proofs.Ends.{never}
 use native.Mathlib.Omega.{arith}
-use borrow.Author.Needs.{needs}
 use Rattle.courses.proofs.course.fits.Statement.{statement}
 use Rattle.courses.proofs.course.fits.Tie as tie
 

@@ -1,7 +1,7 @@
 -- `courses::course::follow` meets its contract.
-use mathlib.Core.Path.{_≡_, refl, sym, ap, _∙_}
+use mathlib.Core.Path.{refl, sym, _∙_}
 use Prim.Native.Nat.{zero-le}
-use Rattle.stretches.proofs.Carries.{carried-none, carried-on}
+use Rattle.stretches.proofs.Carries.{carried-none}
 use Rattle.courses.proofs.Ends.{follows-on}
 use borrow.Author.Needs.{needs}
 use Rattle.courses.proofs.course.follow.Statement.{statement}

@@ -1,8 +1,7 @@
 -- `courses::course::heard` meets its contract.
-use mathlib.Core.Path.{_≡_, refl, sym, ap, _∙_}
-use Rattle.phases.specs.declared.Kind.{Kind}
-use Rattle.phases.specs.Kinds.{incoming, restarts}
-use Rattle.stretches.proofs.Carries.{carried-none, carried-on}
+use mathlib.Core.Path.{sym, ap, _∙_}
+use Rattle.phases.specs.Kinds.{incoming}
+use Rattle.stretches.proofs.Carries.{carried-none}
 use borrow.Author.Needs.{needs}
 use Rattle.courses.proofs.course.heard.Statement.{statement}
 use Rattle.courses.proofs.course.heard.Tie as tie

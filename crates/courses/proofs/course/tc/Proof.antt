@@ -1,7 +1,6 @@
 -- `courses::course::tc` meets its contract.
-use mathlib.Core.Path.{_≡_, refl, sym, ap, _∙_}
+use mathlib.Core.Path.{sym, _∙_}
 use Rattle.courses.proofs.Ends.{never}
-use borrow.Author.Needs.{needs}
 use Rattle.courses.proofs.course.tc.Statement.{statement}
 use Rattle.courses.proofs.course.tc.Tie as tie
 

@@ -1,6 +1,6 @@
 -- `courses::course::through` meets its contract.
-use mathlib.Core.Path.{_≡_, refl, sym, ap, _∙_}
-use Rattle.stretches.proofs.Carries.{carried-none, carried-on}
+use mathlib.Core.Path.{refl, _∙_}
+use Rattle.stretches.proofs.Carries.{carried-on}
 use Rattle.courses.proofs.Ends.{closes-follows, follows-on}
 use borrow.Author.Needs.{needs}
 use Rattle.courses.proofs.course.through.Statement.{statement}

@@ -1,7 +1,7 @@
 -- `courses::course::turned` meets its contract.
-use mathlib.Core.Path.{_≡_, refl, sym, ap, _∙_}
+use mathlib.Core.Path.{refl}
 use native.Mathlib.Omega.{arith}
-use Rattle.stretches.proofs.Carries.{carried-none, carried-on}
+use Rattle.stretches.proofs.Carries.{carried-none}
 use Rattle.courses.proofs.Blocks.{restart}
 use borrow.Author.Needs.{needs}
 use Rattle.courses.proofs.course.turned.Statement.{statement}

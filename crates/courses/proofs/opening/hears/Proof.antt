@@ -1,7 +1,6 @@
 -- `courses::opening::hears` meets its contract.
-use mathlib.Core.Path.{_≡_, refl, sym, ap, _∙_}
+use mathlib.Core.Path.{sym, _∙_}
 use Rattle.courses.proofs.Ends.{never}
-use borrow.Author.Needs.{needs}
 use Rattle.courses.proofs.opening.hears.Statement.{statement}
 use Rattle.courses.proofs.opening.hears.Tie as tie
 

@@ -1,5 +1,4 @@
 -- `courses::opening::open_write_read` meets its contract.
-use mathlib.Core.Path.{_≡_, refl, sym, ap, _∙_}
 use borrow.Author.Needs.{needs}
 use Rattle.courses.proofs.opening.open_write_read.Statement.{statement}
 use Rattle.courses.proofs.opening.open_write_read.Tie as tie

@@ -1,10 +1,9 @@
 -- `courses::opening::opened` meets its contract.
-use mathlib.Core.Path.{_≡_, refl, sym, ap, _∙_}
+use mathlib.Core.Path.{refl, ap}
 use Prim.Native.Nat.{zero-le}
 use Rattle.phases.specs.declared.Phase.{Phase}
-use Rattle.phases.specs.declared.Phase.the-variants.{Wait, Transfer}
 use Rattle.parked.proofs.Phases.{atPhase}
-use Rattle.stretches.proofs.Carries.{carried-none, carried-on}
+use Rattle.stretches.proofs.Carries.{carried-none}
 use Rattle.courses.proofs.Ends.{opens, shut}
 use borrow.Author.Needs.{needs}
 use Rattle.courses.proofs.opening.opened.Statement.{statement}

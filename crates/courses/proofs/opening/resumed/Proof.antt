@@ -1,10 +1,9 @@
 -- `courses::opening::resumed` meets its contract.
-use mathlib.Core.Path.{_≡_, refl, sym, ap, _∙_}
+use mathlib.Core.Path.{ap, _∙_}
 use native.Mathlib.Omega.{arith}
-use lib.ListN.{length, getD, length-set}
-use Prim.Native.Nat.{ℕ, _+_, _-_, _≤_, _<_}
-use Rattle.phases.specs.declared.Kind.{Kind}
-use Rattle.phases.specs.Kinds.{incoming, restarts}
+use lib.ListN.{length}
+use Prim.Native.Nat.{_-_, _<_}
+use Rattle.phases.specs.Kinds.{incoming}
 use Rattle.stretches.proofs.Puts.{put-fits, put-logs, put-not}
 use Rattle.courses.proofs.Blocks.{resumes}
 use Rattle.courses.proofs.Ends.{opens, shut}

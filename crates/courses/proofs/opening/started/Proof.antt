@@ -1,8 +1,7 @@
 -- `courses::opening::started` meets its contract.
-use mathlib.Core.Path.{_≡_, refl, sym, ap, _∙_}
+use mathlib.Core.Path.{sym, ap, _∙_}
 use native.Mathlib.Omega.{arith}
-use lib.ListN.{length, getD, length-set}
-use Prim.Native.Nat.{ℕ, _+_, _-_, _≤_, _<_}
+use Prim.Native.Nat.{_-_}
 use Rattle.phases.specs.declared.Phase.{Phase}
 use Rattle.parked.proofs.Phases.{atPhase}
 use Rattle.courses.proofs.Blocks.{open-write, open-read, open-write-read}

@@ -1,5 +1,5 @@
 -- `stretches::stretch::polled` meets its contract.
-use mathlib.Core.Path.{_≡_, sym, _∙_}
+use mathlib.Core.Path.{sym, _∙_}
 use Rattle.stretches.proofs.Puts.{put-fits, put-logs, put-not}
 use borrow.Author.Needs.{needs}
 use Rattle.stretches.proofs.stretch.polled.Statement.{statement}

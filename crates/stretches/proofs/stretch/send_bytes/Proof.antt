@@ -1,12 +1,11 @@
 -- `stretches::stretch::send_bytes` meets its contract: what it ensures is its invariant.
-use Prim.Native.Nat.{ℕ, _+_, _-_, _≤_, _<_}
-use mathlib.Core.Path.{_≡_, refl, sym, ap, _∙_}
+use Prim.Native.Nat.{_-_}
+use mathlib.Core.Path.{refl, sym, ap, _∙_}
 use native.Mathlib.Omega.{arith}
 use lib.ListN.{length}
 use borrow.Author.Needs.{needs}
-use Rattle.stretches.specs.declared.Moved.{Moved}
 use Rattle.stretches.specs.Stretches.{Sends}
-use Rattle.stretches.proofs.Carries.{carried-none, carried-on}
+use Rattle.stretches.proofs.Carries.{carried-none}
 use Rattle.stretches.proofs.Moves.{moved, send-one, idle-out, sends-on}
 use Rattle.stretches.proofs.stretch.send_bytes.Statement.{statement}
 use Rattle.stretches.proofs.stretch.send_bytes.Tie as tie
