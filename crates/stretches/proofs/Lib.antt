@@ -1,4 +1,5 @@
 pub mod Accesses
 pub mod Carries
 pub mod Moves
+pub mod Promises
 pub mod Puts
