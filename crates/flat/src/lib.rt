@@ -4,7 +4,7 @@ ghost use Rattle.answers.specs.Answers.{said};
 ghost use Rattle.kept.specs.Kept.{laid};
 ghost use Rattle.flat.specs.Out.{six};
 use access::Report;
-use blocking::Ran;
+use runs::Ran;
 
 pub mod configured;
 pub mod out;

@@ -1,5 +1,4 @@
 // The calls of the non-blocking driver.
-use crate::Kept;
 use crate::settings::configuration;
 use crate::settings::is_done;
 use access::refused;
@@ -7,11 +6,18 @@ use answers::Answer;
 use nonblocking::link::Called;
 use nonblocking::link::Link;
 use print::answer::Told;
-use script::Bytes;
+use print::answer::accesses;
+use print::answer::told_line;
+use print::buffer::Buffer;
+use print::buffer::byte as print_byte;
+use print::outcome::bytes_line;
+use print::words::decimal;
+use print::words::hex4;
 use script::calls::*;
 use script::parse::bytes_of;
 use script::slots::*;
-use script::tokens::part;
+use text::Bytes;
+use text::tokens::part;
 
 // No call of the driver: no access, and the answer 0.
 fn put(link: Link) -> Called {
@@ -142,28 +148,49 @@ fn given(slots: &Slots) -> usize {
     if has(slots, DATA) { DATA } else { SEND }
 }
 
-pub(crate) fn play_link(
-    kept: Kept,
+fn link_numbers(out: &mut Buffer, used: usize, link: Link) -> usize {
+    let used = hex4(out, used, link.address as u32);
+    let used = decimal(out, used, link.watchdog as u64);
+    let used = decimal(out, used, link.index as u64);
+    let used = decimal(out, used, link.length as u64);
+    let used = decimal(out, used, link.errors as u64);
+    decimal(out, used, link.length_write_read as u64)
+}
+
+// The answer, and the link after the call.
+fn link_lines(out: &mut Buffer, used: usize, answer: Answer, link: Link) -> usize {
+    let data = link.data;
+    let used = told_line(out, used, Told::Answer(answer), &data);
+    let used = print_byte(out, used, b'S');
+    let used = link_numbers(out, used, link);
+    bytes_line(out, used, &data)
+}
+
+// The link after a line, and how much of the output is still to be written.
+pub struct Linked {
+    pub link: Link,
+    pub used: usize,
+}
+
+pub fn play_link(
+    link: Link,
     call: Call,
     text: &[u8],
     slots: &Slots,
     words: &[u32],
     log: &mut [u32],
-) -> Kept {
+    out: &mut Buffer,
+    used: usize,
+) -> Linked {
     let mut bytes = [0u8; 16384];
     let count = bytes_of(text, slots, given(slots), &mut bytes);
-    let called = link_call(kept.link, call, slots, &bytes, count, words, log);
+    let called = link_call(link, call, slots, &bytes, count, words, log);
     let report = called.report;
     let answer = report.answer;
-    let link = called.link;
-    let parked = kept.parked;
-    Kept {
-        link,
-        parked,
-        send: kept.send,
-        recv: kept.recv,
-        call,
-        told: Told::Answer(answer),
-        logged: report.logged,
+    let after = called.link;
+    let used = accesses(out, used, log, report.logged);
+    Linked {
+        link: after,
+        used: link_lines(out, used, answer, after),
     }
 }

@@ -6,6 +6,8 @@ use config::Setting;
 use config::SlaveAddressMask;
 use config::Timing;
 use print::answer::Told;
+use print::answer::told_line;
+use print::buffer::Buffer;
 use script::calls::*;
 use script::slots::*;
 
@@ -97,11 +99,16 @@ fn filter(filtered: Filtered) -> Told {
 }
 
 // A call of the configuration; what is no call at all is told as that.
-pub(crate) fn config_call(call: Call, slots: &Slots) -> Told {
+fn config_call(call: Call, slots: &Slots) -> Told {
     match call {
         CFG_TIMING => timing(configuration(slots), word(slots, CLOCK)),
         CFG_FILTER => filter(config(slots).enable_digital_filter(byte(slots, CYCLES))),
         CFG_PERIOD => Told::Period(Config::scl_period(word(slots, PERIOD))),
         _ => Told::BadLine,
     }
+}
+
+// A line of the configuration, or none.
+pub fn play_config(call: Call, slots: &Slots, out: &mut Buffer, used: usize) -> usize {
+    told_line(out, used, config_call(call, slots), &[])
 }

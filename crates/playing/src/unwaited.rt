@@ -1,17 +1,19 @@
 // The blocking calls that never wait.
-use crate::Kept;
 use crate::settings::configuration;
 use crate::settings::is_done;
 use access::Report;
 use access::refused;
-use blocking::Event;
-use blocking::construct::i2c1;
-use blocking::interrupts::clear_irq;
-use blocking::interrupts::listen;
-use blocking::interrupts::unlisten;
-use blocking::slave::slave_addressed;
-use blocking::slave::slave_sbc;
+use never_wait::Event;
+use never_wait::construct::i2c1;
+use never_wait::interrupts::clear_irq;
+use never_wait::interrupts::listen;
+use never_wait::interrupts::unlisten;
+use never_wait::slave::slave_addressed;
+use never_wait::slave::slave_sbc;
 use print::answer::Told;
+use print::answer::accesses;
+use print::answer::told_line;
+use print::buffer::Buffer;
 use script::calls::*;
 use script::slots::*;
 
@@ -44,24 +46,17 @@ fn unwaited_call(call: Call, slots: &Slots, words: &[u32], log: &mut [u32]) -> R
     }
 }
 
-pub(crate) fn play_unwaited(
-    kept: Kept,
+pub fn play_unwaited(
     call: Call,
     slots: &Slots,
     words: &[u32],
     log: &mut [u32],
-) -> Kept {
+    out: &mut Buffer,
+    used: usize,
+) -> usize {
     let report = unwaited_call(call, slots, words, log);
     let answer = report.answer;
-    let link = kept.link;
-    let parked = kept.parked;
-    Kept {
-        link,
-        parked,
-        send: kept.send,
-        recv: kept.recv,
-        call,
-        told: Told::Answer(answer),
-        logged: report.logged,
-    }
+    let used = accesses(out, used, log, report.logged);
+    // No answer here shows bytes.
+    told_line(out, used, Told::Answer(answer), &[])
 }

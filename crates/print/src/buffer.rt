@@ -16,7 +16,7 @@ pub fn flush(out: &Buffer, used: usize) {
 }
 
 // One byte; a full buffer is written first.
-pub(crate) fn byte(out: &mut Buffer, used: usize, byte: u8) -> usize {
+pub fn byte(out: &mut Buffer, used: usize, byte: u8) -> usize {
     if used < 65536 {
         out[used] = byte;
         return used + 1;

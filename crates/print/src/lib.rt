@@ -2,4 +2,4 @@
 pub mod answer;
 pub mod buffer;
 pub mod outcome;
-mod words;
+pub mod words;

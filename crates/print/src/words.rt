@@ -35,7 +35,7 @@ pub(crate) fn hex2(out: &mut Buffer, used: usize, n: u32) -> usize {
     pair(out, used, n)
 }
 
-pub(crate) fn hex4(out: &mut Buffer, used: usize, n: u32) -> usize {
+pub fn hex4(out: &mut Buffer, used: usize, n: u32) -> usize {
     let used = hex2(out, used, n / 0x100);
     pair(out, used, n)
 }
@@ -46,7 +46,7 @@ pub(crate) fn hex8(out: &mut Buffer, used: usize, n: u32) -> usize {
     pair(out, used, n)
 }
 
-pub(crate) fn decimal(out: &mut Buffer, used: usize, n: u64) -> usize {
+pub fn decimal(out: &mut Buffer, used: usize, n: u64) -> usize {
     let mut digits = [0u8; 20];
     let k = io::decimal(n, &mut digits);
     let used = byte(out, used, b' ');

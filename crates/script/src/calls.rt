@@ -1,6 +1,6 @@
 // The calls of a script, by number: of each driver they are in the order of their names in `call_of`.
-use crate::tokens::NO_NAME;
-use crate::tokens::which;
+use text::tokens::NO_NAME;
+use text::tokens::which;
 
 pub type Call = usize;
 

@@ -1,15 +1,15 @@
 // The values of a call: its arguments by their place, and the options after them.
-use crate::Number;
-use crate::OVER;
 use crate::calls::*;
-use crate::numbers::masked;
-use crate::numbers::number;
 use crate::slots::*;
-use crate::tokens::ends;
-use crate::tokens::find;
-use crate::tokens::part;
-use crate::tokens::skip;
-use crate::tokens::which;
+use text::Number;
+use text::OVER;
+use text::numbers::masked;
+use text::numbers::number;
+use text::tokens::ends;
+use text::tokens::find;
+use text::tokens::part;
+use text::tokens::skip;
+use text::tokens::which;
 
 // The slot of a call's argument at a place.
 fn argument(call: Call, place: usize) -> usize {

@@ -1,18 +1,18 @@
 // From a line to its call.
-use crate::Bytes;
-use crate::Number;
-use crate::OVER;
 use crate::Words;
-use crate::bytes::bytes;
 use crate::calls::BAD_LINE;
 use crate::calls::Call;
 use crate::calls::call_of;
 use crate::items::keep_items;
-use crate::numbers::number as number_of;
 use crate::slots::*;
-use crate::tokens::find;
-use crate::tokens::part;
-use crate::tokens::skip;
+use text::Bytes;
+use text::Number;
+use text::OVER;
+use text::bytes::bytes;
+use text::numbers::number as number_of;
+use text::tokens::find;
+use text::tokens::part;
+use text::tokens::skip;
 
 // The word that a token is, into its place.
 fn keep_word(token: &[u8], words: &mut Words, place: usize) -> bool {

@@ -1,10 +1,10 @@
 // The words that are read ahead.
-use script::Number;
-use script::Text;
-use script::input::NO_LINE;
-use script::input::next_line;
-use script::numbers::number;
-use script::tokens::part;
+use text::Number;
+use text::Text;
+use text::input::NO_LINE;
+use text::input::next_line;
+use text::numbers::number;
+use text::tokens::part;
 
 // At most three: a call takes no more. `open` while no other line has come, `more` while the input has not ended.
 pub(crate) struct Ahead {

@@ -1,0 +1,30 @@
+-- `text::input::next_line` is safe and ends.
+use Prim.Native.Nat.{_≤_}
+use borrow.Author.Needs.{needs}
+use Rattle.text.proofs.input.next_line.Statement.{statement}
+use Rattle.text.proofs.input.next_line.Tie as tie
+
+abbrev Inv-loop : tie.InvT-loop
+Inv-loop buffer₀ at₀ end₀ line₀ count₀ turns₀ buffer at end line count turns = 0 ≤ turns
+
+abbrev μ-loop : tie.MeasureT-loop
+μ-loop buffer₀ at₀ end₀ line₀ count₀ turns₀ buffer at end line count turns = turns
+
+pub next-line-spec : {M : Type 1} → statement M
+next-line-spec =
+    tie.close
+    (tie.spec
+    Inv-loop
+    μ-loop
+    (λ c. search needs)
+    (λ c κs. search needs)
+    (λ c. search needs)
+    (λ c κs. search needs)
+    (λ c. search needs)
+    (λ c κs. search needs)
+    (λ c. search needs)
+    (λ c κs. search needs)
+    (λ c. search needs)
+    (λ c. search needs)
+    (λ c. search needs)
+    (λ c. search needs))
