@@ -7,9 +7,9 @@ use lib.ListN.{length, getD, drop}
 use lib.Seq.{sets}
 use Rattle.layout.specs.Layout.{ISR, ICR, CR2, RXNE, TXIS, TXE, TC, STOPF, offset, _has_}
 use Rattle.layout.specs.Words.{started, sadd8, cleared}
-use Rattle.flags.specs.declared.Wanted.the-variants.{Txis, Rxne}
-use Rattle.flags.specs.declared.Found.the-variants.{Stopf as MetStopf}
-use Rattle.flags.specs.Flags.{foundIn}
+use Rattle.wanted.specs.declared.Wanted.the-variants.{Txis, Rxne}
+use Rattle.wanted.specs.declared.Found.the-variants.{Stopf as MetStopf}
+use Rattle.wanted.specs.Found.{foundIn}
 use Rattle.phases.specs.declared.Kind.{Kind}
 use Rattle.phases.specs.declared.End.the-variants.{Stopf, OutOfWords}
 use Rattle.phases.specs.declared.Phase.{Phase}

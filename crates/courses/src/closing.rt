@@ -9,10 +9,8 @@ ghost use Rattle.courses.specs.Courses.{Asked, Stopped, Quiet, Closes, t
 use crate::Close;
 use crate::Place;
 use crate::opening::hears;
-use flags::Found;
 use flags::Icr;
 use flags::Isr;
-use flags::Wanted;
 use parked::End;
 use parked::Kind;
 use parked::Parked;
@@ -21,6 +19,8 @@ use stretches::Moved;
 use stretches::Progress;
 use stretches::Turn;
 use stretches::put_at;
+use wanted::Found;
+use wanted::Wanted;
 
 // RXNE in the last word: the byte is next.
 fn asked(hears: bool, taken: usize, logged: usize, words: &[u32], log: &mut [u32]) -> bool
@@ -69,7 +69,7 @@ fn quiet(kind: Kind, isr: u32, first: u32, second: u32) -> bool
     if Isr::TXE.is_set(second) {
         return false;
     }
-    let found = Isr::found_in(isr, wanted(kind));
+    let found = wanted(kind).found_in(isr);
     if let Found::Stopf = found {
         return true;
     }

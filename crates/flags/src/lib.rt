@@ -5,7 +5,7 @@ ghost use Prim.Native.Nat.{_<_};
 ghost use Rattle.fields.specs.Field.{put};
 ghost use Rattle.layout.specs.Layout.{_has_, BERR, ARLO, NACKF, STOPF, TC, TCR, ADDR};
 ghost use Rattle.layout.specs.Words.{flushed};
-ghost use Rattle.flags.specs.Flags.{takenAs, wantedName, foundIn, directionOf, addressCode};
+ghost use Rattle.flags.specs.Flags.{takenAs, directionOf, addressCode};
 use answers::I2cDirection;
 use fields::Field;
 
@@ -20,25 +20,6 @@ pub enum Flag {
     Tc,
     Tcr,
     Addr,
-    Nothing,
-}
-
-// The flag that a `busy_wait` waits for.
-pub enum Wanted {
-    Txis,
-    Rxne,
-    Tc,
-}
-
-// What a `busy_wait` finds in an ISR word.
-pub enum Found {
-    Wanted,
-    Berr,
-    Arlo,
-    Nackf,
-    Tcr,
-    Addr,
-    Stopf,
     Nothing,
 }
 
@@ -143,34 +124,6 @@ impl Isr {
         Flag::Nothing
     }
 
-    // What a wait finds: the wanted flag, else the first of the others, in the order of `busy_wait`.
-    pub fn found_in(isr: u32, wanted: Wanted) -> Found
-        ensures { λ r. ⌜ r ≡ foundIn isr wanted ⌝ }
-    {
-        if wanted.is_set(isr) {
-            return Found::Wanted;
-        }
-        if Isr::BERR.is_set(isr) {
-            return Found::Berr;
-        }
-        if Isr::ARLO.is_set(isr) {
-            return Found::Arlo;
-        }
-        if Isr::NACKF.is_set(isr) {
-            return Found::Nackf;
-        }
-        if Isr::TCR.is_set(isr) {
-            return Found::Tcr;
-        }
-        if Isr::ADDR.is_set(isr) {
-            return Found::Addr;
-        }
-        if Isr::STOPF.is_set(isr) {
-            return Found::Stopf;
-        }
-        Found::Nothing
-    }
-
     // Who sends: the slave when DIR is set.
     pub fn direction(isr: u32) -> I2cDirection
         ensures { λ r. ⌜ r ≡ directionOf isr ⌝ }
@@ -193,18 +146,6 @@ impl Isr {
         ensures { λ r. ⌜ r ≡ flushed ⌝ }
     {
         Isr::TXE.put(1, 1)
-    }
-}
-
-impl Wanted {
-    fn is_set(self, isr: u32) -> bool
-        ensures { λ r. ⌜ r ≡ isr has wantedName self ⌝ }
-    {
-        match self {
-            Wanted::Txis => Isr::TXIS.is_set(isr),
-            Wanted::Rxne => Isr::RXNE.is_set(isr),
-            Wanted::Tc => Isr::TC.is_set(isr),
-        }
     }
 }
 

@@ -6,7 +6,7 @@ use Rattle.phases.specs.declared.Phase.{Phase}
 use Rattle.phases.specs.declared.Phase.the-variants.{Wait, Transfer}
 use Rattle.parked.specs.declared.Next.{Next}
 use Rattle.parked.specs.declared.Parked.{Parked}
-use Rattle.flags.specs.Flags.{foundIn}
+use Rattle.wanted.specs.Found.{foundIn}
 use Rattle.parked.specs.Wants.{more, wants, wantsAt}
 use Rattle.parked.specs.After.{phaseAt, afterFound, wanted, turns, moves, after}
 

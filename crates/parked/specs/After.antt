@@ -4,10 +4,11 @@ use mathlib.Core.Bool.{Bool, false, cond}
 use mathlib.Core.List.{[], _∷_}
 use lib.Dec.{eqb}
 use Rattle.answers.specs.Answers.{Said, says, directionNumber}
-use Rattle.flags.specs.declared.Wanted.{Wanted}
-use Rattle.flags.specs.declared.Found.{Found}
+use Rattle.wanted.specs.declared.Wanted.{Wanted}
+use Rattle.wanted.specs.declared.Found.{Found}
 use Rattle.layout.specs.Layout.{TXE, TXIS, ADDR, _has_}
-use Rattle.flags.specs.Flags.{foundIn, directionOf, addressCode}
+use Rattle.flags.specs.Flags.{directionOf, addressCode}
+use Rattle.wanted.specs.Found.{foundIn}
 use Rattle.phases.specs.declared.Kind.the-variants.{ReadBack}
 use Rattle.phases.specs.declared.End.{End}
 use Rattle.phases.specs.declared.End.the-variants.{OutOfWords, LogFull, BadLength, Berr, Arlo, Addr, Stopf, Addressed}

@@ -1,7 +1,7 @@
 // `busy_wait` of a parked call, and the answers of the final flags. What each flag leads to is in `waits`.
 ghost use mathlib.Core.Path.{_≡_};
 ghost use Rattle.answers.specs.Answers.{said};
-ghost use Rattle.flags.specs.Flags.{foundIn};
+ghost use Rattle.wanted.specs.Found.{foundIn};
 ghost use Rattle.parked.specs.After.{wanted, whole, addrAnswer, stopAnswer, answer, afterFound};
 use crate::Parked;
 use crate::machine::addressed;

@@ -5,7 +5,8 @@ use mathlib.Core.List.{List, [], _∷_}
 use lib.ListN.{replicate}
 use Rattle.fields.specs.Field.{get, put, isSet}
 use Rattle.layout.specs.Words.{started, sized, refused}
-use Rattle.flags.specs.Flags.{foundIn, directionOf}
+use Rattle.flags.specs.Flags.{directionOf}
+use Rattle.wanted.specs.Found.{foundIn}
 use Rattle.answers.specs.Answers.{Said, says}
 use Rattle.phases.specs.declared.Kind.{Kind}
 use Rattle.phases.specs.declared.Kind.the-variants.{Write, Read, WriteRead, SlaveWrite, SlaveRead, SlaveWaitAddressed}

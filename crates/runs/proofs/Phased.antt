@@ -5,12 +5,12 @@ use mathlib.Core.Path.{_≡_, refl, _∙_}
 use mathlib.Core.Bool.{Bool, true, false, cond}
 use mathlib.Core.List.{List}
 use lib.ListN.{getD}
-use Rattle.flags.specs.declared.Wanted.{Wanted}
-use Rattle.flags.specs.declared.Wanted.the-variants.{Txis, Rxne, Tc}
-use Rattle.flags.specs.declared.Found.the-variants.{Wanted as Met}
+use Rattle.wanted.specs.declared.Wanted.{Wanted}
+use Rattle.wanted.specs.declared.Wanted.the-variants.{Txis, Rxne, Tc}
+use Rattle.wanted.specs.declared.Found.the-variants.{Wanted as Met}
 use Rattle.layout.specs.Layout.{ISR, RXDR, TXDR, offset, _has_}
 use Rattle.layout.specs.Words.{sent}
-use Rattle.flags.specs.Flags.{wantedName, foundIn}
+use Rattle.wanted.specs.Found.{wantedName, foundIn}
 use Rattle.phases.specs.declared.Phase.{Phase}
 use Rattle.phases.specs.declared.Phase.the-variants.{Wait, Transfer}
 use Rattle.parked.specs.declared.Next.the-variants.{Read, Write}

@@ -7,10 +7,10 @@ use native.Mathlib.Omega.{arith}
 use borrow.Author.Tests.{lt-ltb}
 use lib.ListN.{length, getD, set}
 use lib.Seq.{sets}
-use Rattle.flags.specs.declared.Wanted.{Wanted}
-use Rattle.flags.specs.declared.Wanted.the-variants.{Txis, Rxne}
-use Rattle.flags.specs.declared.Found.the-variants.{Nothing}
-use Rattle.flags.specs.Flags.{foundIn}
+use Rattle.wanted.specs.declared.Wanted.{Wanted}
+use Rattle.wanted.specs.declared.Wanted.the-variants.{Txis, Rxne}
+use Rattle.wanted.specs.declared.Found.the-variants.{Nothing}
+use Rattle.wanted.specs.Found.{foundIn}
 use Rattle.layout.specs.Layout.{ISR, RXDR, TXDR, TXIS, RXNE, offset, _has_}
 use Rattle.layout.specs.Words.{received, sent}
 use Rattle.phases.specs.declared.Phase.the-variants.{Wait, Transfer}

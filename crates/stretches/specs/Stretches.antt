@@ -7,9 +7,9 @@ use lib.Dec.{leb}
 use lib.ListN.{length, take, drop}
 use lib.Seq.{sets}
 use Rattle.layout.specs.Layout.{ISR, offset}
-use Rattle.flags.specs.declared.Wanted.{Wanted}
-use Rattle.flags.specs.declared.Found.the-variants.{Nothing as NoFlag}
-use Rattle.flags.specs.Flags.{foundIn}
+use Rattle.wanted.specs.declared.Wanted.{Wanted}
+use Rattle.wanted.specs.declared.Found.the-variants.{Nothing as NoFlag}
+use Rattle.wanted.specs.Found.{foundIn}
 use Rattle.phases.specs.declared.Phase.the-variants.{Wait}
 use Rattle.phases.specs.Kinds.{incoming}
 use Rattle.parked.specs.declared.Parked.{Parked}

@@ -6,11 +6,11 @@ ghost use Rattle.stretches.specs.Stretches.{Polled, Sends, Receives};
 use crate::Brought;
 use crate::Moved;
 use crate::put_at;
-use flags::Found;
 use flags::Isr;
-use flags::Wanted;
 use registers::data::Rxdr;
 use registers::data::Txdr;
+use wanted::Found;
+use wanted::Wanted;
 
 // Whether a byte and a word are left.
 fn left(count: usize, bytes: usize, taken: usize, words: usize) -> bool
@@ -40,7 +40,7 @@ fn polled(
         }
         return Brought::Else;
     }
-    let found = Isr::found_in(isr, wanted);
+    let found = wanted.found_in(isr);
     if let Found::Nothing = found {
         if put_at(log, logged, &[Isr::READ, isr]) {
             return Brought::Nothing;

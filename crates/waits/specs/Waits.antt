@@ -1,10 +1,10 @@
 -- `busy_wait`: the flag that a call of a kind waits for, and the phase that each flag leads to. `more` says that a byte is left to send, or a place to fill.
 use Prim.Native.Nat.{ℕ}
 use mathlib.Core.Bool.{Bool, false, cond}
-use Rattle.flags.specs.declared.Wanted.{Wanted}
-use Rattle.flags.specs.declared.Wanted.the-variants.{Txis as WantTxis, Rxne as WantRxne, Tc as WantTc}
-use Rattle.flags.specs.declared.Found.{Found}
-use Rattle.flags.specs.declared.Found.the-variants.{Wanted as Met, Berr as MetBerr, Arlo as MetArlo, Nackf as MetNackf, Tcr as MetTcr, Addr as MetAddr, Stopf as MetStopf, Nothing as MetNothing}
+use Rattle.wanted.specs.declared.Wanted.{Wanted}
+use Rattle.wanted.specs.declared.Wanted.the-variants.{Txis as WantTxis, Rxne as WantRxne, Tc as WantTc}
+use Rattle.wanted.specs.declared.Found.{Found}
+use Rattle.wanted.specs.declared.Found.the-variants.{Wanted as Met, Berr as MetBerr, Arlo as MetArlo, Nackf as MetNackf, Tcr as MetTcr, Addr as MetAddr, Stopf as MetStopf, Nothing as MetNothing}
 use Rattle.phases.specs.declared.End.the-variants.{Addr}
 use Rattle.phases.specs.declared.Kind.{Kind}
 use Rattle.phases.specs.declared.Phase.{Phase}

@@ -1,14 +1,13 @@
 // `busy_wait`: the flag that a call waits for, and the phase that each flag leads to.
 // A wait is told the kind of the call, and whether a byte is left to send or a place to fill (`more`).
 ghost use mathlib.Core.Path.{_≡_};
-ghost use Rattle.flags.specs.Flags.{foundIn};
+ghost use Rattle.wanted.specs.Found.{foundIn};
 ghost use Rattle.waits.specs.Waits.{tcWait, wanted, compared, found, afterFound};
-use flags::Found;
-use flags::Isr;
-use flags::Wanted;
 use phases::End;
 use phases::Kind;
 use phases::Phase;
+use wanted::Found;
+use wanted::Wanted;
 
 pub mod flush;
 
@@ -80,5 +79,5 @@ fn after_found(flag: Found, kind: Kind, more: bool) -> Phase
 pub fn busy_wait(kind: Kind, more: bool, isr: u32) -> Phase
     ensures { λ r. ⌜ r ≡ afterFound (foundIn isr (wanted kind more)) kind more ⌝ }
 {
-    after_found(Isr::found_in(isr, wanted(kind, more)), kind, more)
+    after_found(wanted(kind, more).found_in(isr), kind, more)
 }

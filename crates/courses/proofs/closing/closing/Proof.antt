@@ -4,7 +4,7 @@ use native.Mathlib.Omega.{arith}
 use lib.ListN.{length, getD}
 use Prim.Native.Nat.{_+_, _-_, _≤_, _<_}
 use mathlib.Core.Bool.{cond}
-use Rattle.flags.specs.declared.Wanted.the-variants.{Txis, Rxne}
+use Rattle.wanted.specs.declared.Wanted.the-variants.{Txis, Rxne}
 use Rattle.phases.specs.declared.Phase.the-variants.{Wait}
 use Rattle.parked.proofs.Phases.{atPhase}
 use Rattle.phases.specs.declared.Kind.{Kind}

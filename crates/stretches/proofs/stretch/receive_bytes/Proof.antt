@@ -4,7 +4,7 @@ use mathlib.Core.Path.{refl, sym, _∙_}
 use native.Mathlib.Omega.{arith}
 use lib.ListN.{length, length-set}
 use borrow.Author.Needs.{needs}
-use Rattle.flags.specs.declared.Wanted.the-variants.{Rxne}
+use Rattle.wanted.specs.declared.Wanted.the-variants.{Rxne}
 use Rattle.phases.specs.declared.Phase.the-variants.{Wait}
 use Rattle.parked.proofs.Phases.{atPhase}
 use Rattle.runs.proofs.Phased.{wanted-in}

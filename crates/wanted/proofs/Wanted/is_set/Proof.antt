@@ -1,7 +1,7 @@
--- `flags::Wanted::is_set` meets its contract.
+-- `wanted::Wanted::is_set` meets its contract.
 use borrow.Author.Needs.{needs}
-use Rattle.flags.proofs.Wanted.is_set.Statement.{statement}
-use Rattle.flags.proofs.Wanted.is_set.Tie as tie
+use Rattle.wanted.proofs.Wanted.is_set.Statement.{statement}
+use Rattle.wanted.proofs.Wanted.is_set.Tie as tie
 
 returns : tie.Need-returns
 returns c = rw (c .before .enum-told .given .1) (c .is-set .ensures)

@@ -1,8 +1,8 @@
--- `flags::Isr::found_in` meets its contract: each test is one of the definition's.
+-- `wanted::Wanted::found_in` meets its contract: each test is one of the definition's.
 use mathlib.Core.Path.{_≡_, sym, _∙_}
-use Rattle.flags.specs.Flags.{foundIn}
-use Rattle.flags.proofs.Isr.found_in.Statement.{statement}
-use Rattle.flags.proofs.Isr.found_in.Tie as tie
+use Rattle.wanted.specs.Found.{foundIn}
+use Rattle.wanted.proofs.Wanted.found_in.Statement.{statement}
+use Rattle.wanted.proofs.Wanted.found_in.Tie as tie
 
 returns : tie.Need-returns
 unfolding foundIn
