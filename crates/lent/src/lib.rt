@@ -105,7 +105,7 @@ pub fn master_read(
 pub fn slave_write(link: &mut Link, bytes: &[u8], words: &[u32], log: &mut [u32]) -> Report
     ensures { λ r. ⌜ Matches (outcome (record { call = slaveWrite (now (bytes .entry)); words = now (words .entry); places = size (now (log .entry)) }) (model (now (link .entry)))) r (model (now (link .exit))) (now (log .entry)) (now (log .exit)) ⌝ }
 {
-    lent_fields::slave_write(
+    lent_slave::slave_write(
         &mut link.address,
         &mut link.watchdog,
         &mut link.index,

@@ -1,13 +1,12 @@
-// The calls over all of a link's fields, lent one by one. A core that takes a field by value gets its value; one that leaves a field alone does not get it.
+// The calls over all of a link's fields, lent one by one. A core that takes a field by value gets its value; one that leaves a field alone does not get it. `slave_write` is in `lent_slave`.
 ghost use lib.ListN.{length as size};
-ghost use Rattle.ending.specs.Call.{masterWrite, masterWriteRead, masterRead, slaveWrite, executeWatchdog};
+ghost use Rattle.ending.specs.Call.{masterWrite, masterWriteRead, masterRead, executeWatchdog};
 ghost use Rattle.ending.specs.Link.{linkAt};
 ghost use Rattle.ending.specs.Outcome.{outcome, Matches};
 use access::Report;
 use checks::watchdog::watchdog_fields;
 use starts::master::read_fields;
 use starts::master::write_fields;
-use starts::slave::slave_write_fields;
 
 pub fn write(
     address: &mut u16,
@@ -99,33 +98,6 @@ pub fn read(
         data,
         addr,
         read_len,
-        words,
-        log,
-    )
-}
-
-pub fn slave_write(
-    address: &mut u16,
-    watchdog: &mut u16,
-    index: &mut usize,
-    length: &mut usize,
-    errors: &mut u32,
-    length_write_read: &mut usize,
-    data: &mut [u8; 255],
-    bytes: &[u8],
-    words: &[u32],
-    log: &mut [u32],
-) -> Report
-    ensures { λ r. ⌜ Matches (outcome (record { call = slaveWrite (now (bytes .entry)); words = now (words .entry); places = size (now (log .entry)) }) (linkAt (now (address .entry)) (now (watchdog .entry)) (now (index .entry)) (now (length .entry)) (now (errors .entry)) (now («length_write_read» .entry)) (now («data» .entry)))) r
-        (linkAt (now (address .exit)) (now (watchdog .exit)) (now (index .exit)) (now (length .exit)) (now (errors .exit)) (now («length_write_read» .exit)) (now («data» .exit))) (now (log .entry)) (now (log .exit)) ⌝ }
-{
-    slave_write_fields(
-        *watchdog,
-        index,
-        length,
-        *length_write_read,
-        data,
-        bytes,
         words,
         log,
     )

@@ -1,7 +1,7 @@
--- `lent_fields::slave_write` meets its contract: what `slave_write_fields` ensures, at the fields that it is not lent.
+-- `lent_slave::slave_write` meets its contract: what `slave_write_fields` ensures, at the fields that it is not lent.
 use borrow.Author.Needs.{needs}
-use Rattle.lent_fields.proofs.slave_write.Statement.{statement}
-use Rattle.lent_fields.proofs.slave_write.Tie as tie
+use Rattle.lent_slave.proofs.slave_write.Statement.{statement}
+use Rattle.lent_slave.proofs.slave_write.Tie as tie
 
 returns : tie.Need-returns
 returns c =
