@@ -1,5 +1,5 @@
 -- `blocking::master::write` meets its contract.
-use Rattle.blocking.proofs.Stretches.{unlent}
+use Rattle.blocking.proofs.Wholes.{unlent}
 use borrow.Author.Needs.{needs}
 use Rattle.blocking.proofs.master.write.Statement.{statement}
 use Rattle.blocking.proofs.master.write.Tie as tie

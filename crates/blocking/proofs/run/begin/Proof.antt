@@ -3,7 +3,7 @@ use mathlib.Core.Path.{_≡_, sym, _∙_}
 use mathlib.Core.Path.{refl}
 use lib.ListN.{length}
 use Prim.Native.Nat.{_/_}
-use Rattle.blocking.proofs.Stretches.{call-good, call-bad}
+use Rattle.blocking.proofs.Wholes.{call-good, call-bad}
 use Rattle.runs.proofs.OneAccess.{outcome-right}
 use Rattle.runs.proofs.Sound.{right-begun}
 use Rattle.parked.specs.Refusals.{begun}

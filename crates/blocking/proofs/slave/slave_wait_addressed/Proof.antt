@@ -1,5 +1,5 @@
 -- `blocking::slave::slave_wait_addressed` meets its contract.
-use Rattle.blocking.proofs.Stretches.{unlent}
+use Rattle.blocking.proofs.Wholes.{unlent}
 use borrow.Author.Needs.{needs}
 use Rattle.blocking.proofs.slave.slave_wait_addressed.Statement.{statement}
 use Rattle.blocking.proofs.slave.slave_wait_addressed.Tie as tie

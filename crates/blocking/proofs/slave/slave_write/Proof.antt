@@ -1,5 +1,5 @@
 -- `blocking::slave::slave_write` meets its contract.
-use Rattle.blocking.proofs.Stretches.{unlent}
+use Rattle.blocking.proofs.Wholes.{unlent}
 use borrow.Author.Needs.{needs}
 use Rattle.blocking.proofs.slave.slave_write.Statement.{statement}
 use Rattle.blocking.proofs.slave.slave_write.Tie as tie

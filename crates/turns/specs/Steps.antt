@@ -1,4 +1,4 @@
--- What the parts of a run promise: how one access, and a stretch of them, carries a run on.
+-- What the parts of a run promise: how one access carries it on, and what is returned where none follows.
 use Prim.Native.Nat.{ℕ, _+_, _-_, _/_, _≤_}
 use mathlib.Core.Path.{_≡_}
 use mathlib.Core.List.{List}
@@ -13,7 +13,7 @@ use Rattle.stretches.specs.declared.Progress.{Progress}
 use Rattle.runs.specs.declared.Ran.{Ran}
 use Rattle.parked.specs.After.{answer}
 use Rattle.stretches.specs.Stretches.{Going}
-use Rattle.runs.specs.Run.{Outcome, stopped, joined, runs, Whole}
+use Rattle.runs.specs.Run.{Outcome, stopped, joined, runs}
 
 -- what is returned where no access follows
 pub record Answered (p : Progress) (e : End) (r : Ran) : Type 0 where
@@ -50,8 +50,3 @@ pub record Forward (s ws log b : List ℕ) (p r : Progress) (log′ b′ : List 
   pub going : (start : List ℕ) (p₀ : Parked) (b₀ : List ℕ) → length start ≡ length log
       → Going s ws start p₀ b₀ log (p .parked) b (p .taken) (p .logged) → Going s ws start p₀ b₀ log′ (r .parked) b′ (r .taken) (r .logged)
   pub ends : Ends (r .turn) (p .logged) (r .logged) (runs s ((length log - r .logged) / 2) (r .parked) b′ (drop (r .taken) ws)) (r .parked) b′
-
--- the rest of a run, from a progress to its end
-pub record Finished (s ws log b : List ℕ) (p : Progress) (r : Ran) (log′ b′ : List ℕ) : Type 0 where
-  pub whole : (start : List ℕ) (p₀ : Parked) (b₀ : List ℕ) → length start ≡ length log
-      → Going s ws start p₀ b₀ log (p .parked) b (p .taken) (p .logged) → Whole (runs s (length start / 2) p₀ b₀ ws) start r log′ b′

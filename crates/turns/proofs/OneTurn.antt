@@ -1,34 +1,25 @@
--- Laws of a run: one step of it, and how stretches of a run join.
+-- Laws of one access: over the words and the log that are left, and in a run.
 use mathlib.Core.Path.{_≡_, refl, sym, ap, ap₂, _∙_, subst}
-use mathlib.Core.Bool.{true, false}
 use mathlib.Core.List.{List, [], _∷_, _++_, append-nil}
-use Prim.Native.Nat.{ℕ, zero, suc, _+_, _-_, _/_, _≤_, _<_, zero-le}
-use native.Mathlib.Nat.{not-suc-le-zero, le-of-suc-le-suc, sub-zero, add-zero}
+use Prim.Native.Nat.{ℕ, suc, _+_, _-_, _/_, _≤_, _<_, zero-le}
+use native.Mathlib.Nat.{not-suc-le-zero, le-of-suc-le-suc, sub-zero}
 use native.Mathlib.Omega.{arith}
 use lib.ListN.{length, take, drop, set, length-drop}
 use lib.Seq.{length-take-le, take-append-add, drop-drop, drop-at, drop-length}
 use borrow.Rule.Slice.PartAt.{part-to-end}
 use borrow.Rule.Slice.PartMut.{putMid, post-is}
-use Rattle.answers.specs.Answers.{says}
-use Rattle.access.specs.Access.{over}
 use Rattle.phases.specs.declared.End.{End}
 use Rattle.phases.specs.declared.Phase.the-variants.{Ended}
 use Rattle.parked.specs.declared.Parked.{Parked}
-use Rattle.phases.specs.declared.Kind.{Kind}
-use Rattle.runs.specs.declared.Ran.{Ran}
+use Rattle.parked.specs.After.{answer}
+use Rattle.parked.proofs.Phases.{wants-at}
+use Rattle.runs.specs.Run.{Outcome, stopped, joined, runs}
+use Rattle.runs.proofs.OneAccess.{joined-none, joined-joined, run-over}
 use Rattle.stretches.specs.declared.Turn.{Turn}
 use Rattle.stretches.specs.declared.Turn.the-variants.{Again, Found, Over}
 use Rattle.stretches.specs.declared.Progress.{Progress}
-use Rattle.parked.specs.After.{answer}
-use Rattle.parked.specs.Refusals.{begun, refused}
-use Rattle.phases.specs.Lengths.{lengths}
-use Rattle.runs.specs.Run.{Outcome, stopped, joined, kept, runs, outcome, called, Whole}
 use Rattle.stretches.specs.Stretches.{Going, Carried}
-use Rattle.stretches.proofs.Carries.{carried-on}
-use Rattle.blocking.specs.Steps.{Answered, Told, Ends, Turned, Forward, Finished}
-use Rattle.courses.specs.Courses.{Stands, Follows, fresh}
-use Rattle.parked.proofs.Phases.{wants-at}
-use Rattle.runs.proofs.OneAccess.{joined-none, joined-joined, run-over}
+use Rattle.turns.specs.Steps.{Told, Ends, Turned, Forward}
 
 two-set : (log : List ℕ) (o w : ℕ) → 2 ≤ length log → set (set log 0 o) 1 w ≡ o ∷ w ∷ drop 2 log
 two-set [] o w h = absurd (not-suc-le-zero h)
@@ -117,15 +108,17 @@ module _ (s ws log b : List ℕ) (p : Progress) (r : Progress) (b′ ys : List �
         (ap₂ (λ (m : ℕ) (x : List ℕ). runs s (m / 2) (r .parked) b′ x) (room-left log refl) (drop-drop (r .taken) (p .taken) ws)) (h .ends));
   }
 
+-- what is put back of the last part of a log
+pub put-rest : (g : ℕ) (log ys : List ℕ) → g ≤ length log → putMid g (length log - g) log ys ≡ take g log ++ ys
+put-rest g log ys h = ap (λ (z : List ℕ). take g log ++ (ys ++ z)) (post-is g (length log) log h ∙ drop-length log) ∙ ap (λ (z : List ℕ). take g log ++ z) (append-nil ys)
+
 -- the same, with the parts as the borrow checker has them
 pub forward-part : (s ws log b : List ℕ) (p : Progress) (r : Progress) (b′ ys : List ℕ) → p .taken ≤ length ws → p .logged ≤ length log
     → length ys ≡ length (take (length log - p .logged) (drop (p .logged) log))
     → Turned s (p .parked) b (take (length ws - p .taken) (drop (p .taken) ws)) (take (length log - p .logged) (drop (p .logged) log)) r b′ ys
     → Forward s ws log b p (record { turn = r .turn; parked = r .parked; taken = p .taken + r .taken; logged = p .logged + r .logged }) (putMid (p .logged) (length log - p .logged) log ys) b′
 forward-part s ws log b p r b′ ys ht hg hl h =
-    let tail : ys ++ drop (length log - p .logged) (drop (p .logged) log) ≡ ys =
-    ap (λ (z : List ℕ). ys ++ z) (post-is (p .logged) (length log) log hg ∙ drop-length log) ∙ append-nil ys in
-    subst (λ (z : List ℕ). Forward s ws log b p (record { turn = r .turn; parked = r .parked; taken = p .taken + r .taken; logged = p .logged + r .logged }) (take (p .logged) log ++ z) b′) (sym tail)
+    subst (λ (z : List ℕ). Forward s ws log b p (record { turn = r .turn; parked = r .parked; taken = p .taken + r .taken; logged = p .logged + r .logged }) z b′) (sym (put-rest (p .logged) log ys hg))
     (forward-law s ws log b p r b′ ys ht hg (hl ∙ ap length (part-to-end log (p .logged)))
     (subst (λ (x : List ℕ). Turned s (p .parked) b (drop (p .taken) ws) x r b′ ys) (part-to-end log (p .logged))
     (subst (λ (x : List ℕ). Turned s (p .parked) b x (take (length log - p .logged) (drop (p .logged) log)) r b′ ys) (part-to-end ws (p .taken)) h)))
@@ -144,40 +137,6 @@ module _ {s ws log b : List ℕ} {p r : Progress} {log′ b′ : List ℕ} (f : 
   pub no-more : (a : End) → r .turn ≡ Over a → runs s ((length log - r .logged) / 2) (r .parked) b′ (drop (r .taken) ws) ≡ stopped (answer a (r .parked)) (r .parked) b′
   no-more a e = told (Over a) e
 
-pub going-none : (s ws start : List ℕ) (p : Parked) (b : List ℕ) → Going s ws start p b start p b 0 0
-going-none s ws start p b = record { kept = refl; run = rw sub-zero (joined-none (runs s (length start / 2) p b ws)) }
-
--- the log's front is what was logged, and its rest is as it was
-over-take : (g : ℕ) (log start : List ℕ) → length log ≡ length start → drop g log ≡ drop g start → log ≡ over (take g log) start
-over-take zero log start e k = k
-over-take (suc g) [] [] e k = refl
-over-take (suc g) [] (y ∷ ys) e k = absurd (omega arith)
-over-take (suc g) (x ∷ xs) [] e k = absurd (omega arith)
-over-take (suc g) (x ∷ xs) (y ∷ ys) e k = ap {B = List ℕ} (λ r. x ∷ r) (over-take g xs ys (omega arith) k)
-
--- the run is over: its whole outcome
-pub finish : (s ws start : List ℕ) (p₀ : Parked) (b₀ log : List ℕ) (p : Progress) (b : List ℕ) (n : ℕ) (a : End) (r : Ran) → p .logged ≤ length log → n ≡ length start → length log ≡ n
-    → Going s ws start p₀ b₀ log (p .parked) b (p .taken) (p .logged) → runs s ((n - p .logged) / 2) (p .parked) b (drop (p .taken) ws) ≡ stopped (answer a (p .parked)) (p .parked) b
-    → Answered p a r → Whole (runs s (length start / 2) p₀ b₀ ws) start r log b
-finish s ws start p₀ b₀ log p b n a r hg hn hl h e k =
-    let all : runs s (length start / 2) p₀ b₀ ws ≡ joined (p .taken) (take (p .logged) log) (stopped (answer a (p .parked)) (p .parked) b) =
-    h .run ∙ ap (joined (p .taken) (take (p .logged) log)) (ap (λ (m : ℕ). runs s ((m - p .logged) / 2) (p .parked) b (drop (p .taken) ws)) (sym hn) ∙ e) in
-    let long : length (take (p .logged) log) ≡ p .logged = length-take-le (p .logged) log hg in
-    rw all (record {
-      answer = k .answer;
-      parked = k .parked;
-      taken = k .taken ∙ sym (add-zero (p .taken));
-      logged = k .logged ∙ rw (append-nil) (sym long);
-      entries = rw (append-nil) (over-take (p .logged) log start (hl ∙ hn) (h .kept));
-      buffer = refl;
-    })
-
--- what a part's step takes stays in the whole
-pub part-fits : (r t : ℕ) (ws : List ℕ) → t ≤ length ws → r ≤ length (take (length ws - t) (drop t ws)) → t + r ≤ length ws
-part-fits r t ws h k =
-    let e : length (take (length ws - t) (drop t ws)) ≡ length (drop t ws) = ap length (part-to-end ws t) in
-    omega (arith, length-drop t ws)
-
 module _ {s ws log₀ b₀ : List ℕ} {p₀ : Progress} where
   pub carried-step : {log b log′ b′ : List ℕ} {p r : Progress} → Carried s ws log₀ b₀ p₀ log b p → Forward s ws log b p r log′ b′
       → length log′ ≡ length log → length b′ ≡ length b → Carried s ws log₀ b₀ p₀ log′ b′ r
@@ -193,40 +152,3 @@ module _ {s ws log₀ b₀ : List ℕ} {p₀ : Progress} where
   -- an access makes the log that is left shorter
   pub shorter : {log b : List ℕ} {p : Progress} → Carried s ws log₀ b₀ p₀ log b p → p₀ .logged + 2 ≤ p .logged → length log - p .logged < length log₀ - p₀ .logged
   shorter c h = omega (arith, c .room, c .long)
-
--- the rest of the run, where a stretch of it ends with a turn that says that it is over
-pub ended : {s ws log₀ b₀ : List ℕ} {p₀ : Progress} {log b log′ b′ : List ℕ} {p r : Progress} {q : Ran}
-    → Carried s ws log₀ b₀ p₀ log b p → Forward s ws log b p r log′ b′ → length log′ ≡ length log → length b′ ≡ length b
-    → (a : End) → r .turn ≡ Over a → Answered r a q → Finished s ws log₀ b₀ p₀ q log′ b′
-ended {s} {ws} {log₀} {b₀} {p₀} {log} {b} {log′} {b′} {p} {r} {q} c f e k a h o =
-    let d = carried-step c f e k in
-    record { whole = λ start p₁ b₁ n g. finish s ws start p₁ b₁ log′ r b′ (length log) a q (d .room) (c .long ∙ sym n) e (d .going start p₁ b₁ n g) (no-more f a h) o }
-
--- the whole run: what follows plainly, and then the rest of it
-pub whole-run : {s ws log b : List ℕ} {p : Parked} {log₁ b₁ : List ℕ} {q : Progress} {r : Ran} {log′ b′ : List ℕ}
-    → Follows s ws log b (fresh p) log₁ b₁ q → Finished s ws log₁ b₁ q r log′ b′ → Whole (runs s (length log / 2) p b ws) log r log′ b′
-whole-run {s} {ws} {log} {b} {p} k f = f .whole log p b (sym (k .carried .long)) (k .carried .going log p b refl (going-none s ws log p b))
-
--- the same where what follows plainly ends the call
-pub whole-over : {s ws log b : List ℕ} {p : Parked} {log′ b′ : List ℕ} {q : Progress} {r : Ran} → Follows s ws log b (fresh p) log′ b′ q → (e : End) → q .turn ≡ Over e → Answered q e r
-    → Whole (runs s (length log / 2) p b ws) log r log′ b′
-whole-over {s} {ws} {log} {b} {p} {log′} {b′} {q} {r} k e t a =
-    let stands : Stands (Over e) s ws (q .parked) (q .taken) b′ = subst (λ (u : Turn). Stands u s ws (q .parked) (q .taken) b′) t (k .stands) in
-    finish s ws log p b log′ q b′ (length log) e r (k .carried .room) refl (k .carried .long) (k .carried .going log p b refl (going-none s ws log p b)) (stands _) a
-
-module _ (k : Kind) (address : ℕ) (s b ws : List ℕ) (n : ℕ) where
-  pub call-good : lengths k (length s) (length b) ≡ true → called k address s n b ws ≡ outcome s n (begun k address (length s) (length b)) b ws
-  unfolding called
-  call-good e = rw e
-
-  pub call-bad : lengths k (length s) (length b) ≡ false → called k address s n b ws ≡ stopped (says 6 []) (refused k address (length s) (length b)) b
-  unfolding called
-  call-bad e = rw e
-
-nothing : (l : List ℕ) → length l ≡ 0 → [] ≡ l
-nothing [] e = refl
-nothing (x ∷ l) e = absurd (omega arith)
-
--- a call that has no buffer is lent an empty one
-pub unlent : {q : Outcome} {log : List ℕ} {r : Ran} {log′ b : List ℕ} → Whole q log r log′ b → length b ≡ 0 → Whole q log r log′ []
-unlent {q} {log} {r} {log′} {b} w e = subst (λ (l : List ℕ). Whole q log r log′ l) (sym (nothing b e)) w
