@@ -8,8 +8,9 @@ use crate::machine::addressed;
 use answers::Answer;
 use phases::End;
 use phases::Phase;
-use waits::busy_wait;
+use waits::after_found;
 use waits::compared;
+use waits::wanted;
 
 impl Parked {
     fn whole(self) -> bool
@@ -47,7 +48,8 @@ impl Parked {
         ensures { λ r. ⌜ r ≡ afterFound (foundIn isr (wanted self)) self ⌝ }
     {
         let kind = self.kind;
-        busy_wait(kind, self.more(), isr)
+        let more = self.more();
+        after_found(wanted(kind, more).found_in(isr), kind, more)
     }
 
     // The answer where no access follows.

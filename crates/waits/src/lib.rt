@@ -1,7 +1,6 @@
 // `busy_wait`: the flag that a call waits for, and the phase that each flag leads to.
 // A wait is told the kind of the call, and whether a byte is left to send or a place to fill (`more`).
 ghost use mathlib.Core.Path.{_≡_};
-ghost use Rattle.wanted.specs.Found.{foundIn};
 ghost use Rattle.waits.specs.Waits.{tcWait, wanted, compared, found, afterFound};
 use phases::End;
 use phases::Kind;
@@ -22,7 +21,7 @@ fn tc_wait(kind: Kind, more: bool) -> bool
 }
 
 // The flag that is waited for.
-fn wanted(kind: Kind, more: bool) -> Wanted
+pub fn wanted(kind: Kind, more: bool) -> Wanted
     ensures { λ r. ⌜ r ≡ wanted kind more ⌝ }
 {
     if kind.incoming() {
@@ -60,7 +59,8 @@ fn found(kind: Kind, more: bool) -> Phase
     Phase::Wait
 }
 
-fn after_found(flag: Found, kind: Kind, more: bool) -> Phase
+// The phase that a flag leads to.
+pub fn after_found(flag: Found, kind: Kind, more: bool) -> Phase
     ensures { λ r. ⌜ r ≡ afterFound flag kind more ⌝ }
 {
     match flag {
@@ -73,11 +73,4 @@ fn after_found(flag: Found, kind: Kind, more: bool) -> Phase
         Found::Stopf => Phase::FlushTxis,
         Found::Nothing => Phase::Wait,
     }
-}
-
-// The flags of an ISR word: the wanted one, then the others in the order of `busy_wait`.
-pub fn busy_wait(kind: Kind, more: bool, isr: u32) -> Phase
-    ensures { λ r. ⌜ r ≡ afterFound (foundIn isr (wanted kind more)) kind more ⌝ }
-{
-    after_found(wanted(kind, more).found_in(isr), kind, more)
 }
