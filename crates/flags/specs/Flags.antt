@@ -1,11 +1,11 @@
 -- What an ISR word says. This file alone knows the flag order of document 01 for `check_isr_flags`.
 use Prim.Native.Nat.{ℕ}
-use mathlib.Core.Bool.{Bool, cond}
+use mathlib.Core.Bool.{cond}
 use Rattle.flags.specs.declared.Flag.{Flag}
 use Rattle.flags.specs.declared.Flag.the-variants.{Berr, Arlo, Nackf, Txis, Rxne, Stopf, Tc, Tcr, Addr, Nothing}
 use Rattle.answers.specs.declared.I2cDirection.{I2cDirection}
 use Rattle.answers.specs.declared.I2cDirection.the-variants.{MasterReadSlaveWrite, MasterWriteSlaveRead}
-use Rattle.layout.specs.Layout.{BERR, ARLO, NACKF, TXIS, RXNE, STOPF, TC, TCR, ADDR, DIR, ADDCODE, TXE, _⟨_⟩, _has_}
+use Rattle.layout.specs.Layout.{BERR, ARLO, NACKF, TXIS, RXNE, STOPF, TC, TCR, ADDR, DIR, ADDCODE, _⟨_⟩, _has_}
 
 -- 'taken as': the first set flag, in the order of `check_isr_flags`
 unfoldable pub takenAs : ℕ → Flag

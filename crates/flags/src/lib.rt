@@ -1,7 +1,6 @@
 // ISR and ICR: the flags, and what clears them.
 ghost use mathlib.Core.Path.{_≡_};
 ghost use mathlib.Core.Bool.{_||_, cond};
-ghost use Prim.Native.Nat.{_<_};
 ghost use Rattle.fields.specs.Field.{put};
 ghost use Rattle.layout.specs.Layout.{_has_, BERR, ARLO, NACKF, STOPF, TC, TCR, ADDR};
 ghost use Rattle.layout.specs.Words.{flushed};
