@@ -8,6 +8,7 @@ use Rattle.flags.specs.declared.Flag.{Flag}
 use Rattle.flags.specs.declared.Flag.the-variants.{Berr, Arlo, Nackf, Txis, Rxne, Stopf, Tc, Tcr, Addr, Nothing}
 use Rattle.layout.specs.Layout.{CR1, CR2, OAR1, ISR, ICR, RXDR, TXDR, RXNE, ADDR, NACKF, STOPF, BERR, ARLO, DIR, _has_}
 use Rattle.layout.specs.Words.{powered, interrupts, byteControl, sadd16, starting, started, sized, refused, stopped, ownSeven, flushed, cleared, sent, received}
+use Rattle.limits.specs.Limits.{lengthAllowed}
 use Rattle.flags.specs.Flags.{takenAs, directionOf, addressCode}
 use Rattle.access.specs.Access.{Access, read, write, over}
 use Rattle.answers.specs.Answers.{Said, says, directionNumber}
@@ -117,7 +118,7 @@ onStart false true w rest l l′ = plan (read CR2 w ∷ rest) 0 l′
 
 -- a byte slice of 1 to 255
 abbrev pub goodLength : List ℕ → Bool
-goodLength bytes = ltb 0 (length bytes) && leb (length bytes) 255
+goodLength bytes = lengthAllowed (length bytes)
 
 -- a write, with the length of the read that follows it; a read clears its part of the buffer
 abbrev pub writeStart : ℕ → List ℕ → ℕ → Bool → ℕ → ℕ → Link → Plan

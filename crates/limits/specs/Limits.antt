@@ -1,7 +1,7 @@
--- The limits of a configuration: the speeds, and the cycles of the digital filter.
+-- The limits of a configuration, the speeds and the cycles of the digital filter, and of a transfer's length.
 use Prim.Native.Nat.{ℕ}
-use mathlib.Core.Bool.{Bool, cond}
-use lib.Dec.{leb}
+use mathlib.Core.Bool.{Bool, cond, _&&_}
+use lib.Dec.{ltb, leb}
 use Rattle.limits.specs.declared.Mode.{Mode}
 
 -- what a speed comes with: up to 100,000, and above
@@ -14,3 +14,7 @@ modeOf speed =
 -- the setter of the digital filter takes 0 to 16
 abbrev pub filterAllowed : ℕ → Bool
 filterAllowed cycles = leb cycles 16
+
+-- a transfer has 1 to 255 bytes
+abbrev pub lengthAllowed : ℕ → Bool
+lengthAllowed n = ltb 0 n && leb n 255

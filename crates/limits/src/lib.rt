@@ -1,7 +1,7 @@
-// The limits of a configuration: what a speed comes with, and the cycles of the digital filter.
+// The limits of a configuration, what a speed comes with and the cycles of the digital filter, and of a transfer's length.
 ghost use mathlib.Core.Path.{_≡_};
 ghost use Prim.Native.Nat.{_<_, _≤_};
-ghost use Rattle.limits.specs.Limits.{modeOf, filterAllowed};
+ghost use Rattle.limits.specs.Limits.{modeOf, filterAllowed, lengthAllowed};
 
 // What a speed comes with: the prescaler, the least quotient, how much shorter SCLH is than SCLL, and the delays.
 pub struct Mode {
@@ -40,4 +40,14 @@ pub fn filter_allowed(cycles: u8) -> bool
     ensures { λ r. ⌜ r ≡ filterAllowed cycles ⌝ }
 {
     cycles <= 16
+}
+
+// 1 to 255 bytes.
+pub fn length_allowed(length: usize) -> bool
+    ensures { λ r. ⌜ r ≡ lengthAllowed length ⌝ }
+{
+    if length == 0 {
+        return false;
+    }
+    length <= 255
 }

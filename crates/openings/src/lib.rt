@@ -8,7 +8,7 @@ ghost use Rattle.layout.specs.Words.{starting, started, sadd16};
 ghost use Rattle.access.specs.Access.{read, write, settle, settled, Reported};
 ghost use Rattle.answers.specs.Answers.{said};
 ghost use Rattle.ending.specs.Link.{Link, impossibleAt};
-ghost use Rattle.ending.specs.Plan.{onStart, goodLength};
+ghost use Rattle.ending.specs.Plan.{onStart};
 use access::Report;
 use access::refused;
 use answers::Answer;
@@ -28,16 +28,6 @@ pub fn impossible(index: usize, length: usize, length_write_read: usize, watchdo
         return true;
     }
     10 < watchdog
-}
-
-// A slice of 1 to 255 bytes.
-pub fn good_length(bytes: &[u8]) -> bool
-    ensures { λ r. ⌜ r ≡ goodLength (now (bytes .entry)) ⌝ }
-{
-    if bytes.len() == 0 {
-        return false;
-    }
-    bytes.len() <= 255
 }
 
 // CR2 was read, and nothing follows.

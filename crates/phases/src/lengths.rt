@@ -1,24 +1,15 @@
 // The lengths of slices that a call begins with.
 ghost use mathlib.Core.Path.{_≡_};
-ghost use Rattle.phases.specs.Lengths.{good, fits, lengths};
+ghost use Rattle.phases.specs.Lengths.{fits, lengths};
 use crate::Kind;
-
-// A length of 1 to 255.
-fn good(length: usize) -> bool
-    ensures { λ r. ⌜ r ≡ good length ⌝ }
-{
-    if length == 0 {
-        return false;
-    }
-    length <= 255
-}
+use limits::length_allowed;
 
 // A slice that the call has is of 1 to 255 bytes, one that it does not have is empty.
 fn fits(used: bool, length: usize) -> bool
     ensures { λ r. ⌜ r ≡ fits used length ⌝ }
 {
     if used {
-        return good(length);
+        return length_allowed(length);
     }
     length == 0
 }

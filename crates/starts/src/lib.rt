@@ -1,5 +1,4 @@
 // Starts of a transfer over a link's fields, lent one by one: the core under the by-value and the lent calls.
-pub use openings::good_length;
 pub use openings::impossible;
 
 mod bytes;

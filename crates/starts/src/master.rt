@@ -14,7 +14,7 @@ use crate::reading::read_opened;
 use access::Report;
 use access::refused;
 use answers::Answer;
-use openings::good_length;
+use limits::length_allowed;
 use openings::impossible;
 use openings::write_opened;
 
@@ -42,7 +42,7 @@ pub fn write_fields(
         return refused(Answer::ImpossibleLink);
     }
     let n = bytes.len();
-    let report = write_opened(addr, n, good_length(bytes), autoend, words, log);
+    let report = write_opened(addr, n, length_allowed(n), autoend, words, log);
     if report.taken != 2 {
         return report;
     }

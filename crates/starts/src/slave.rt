@@ -10,7 +10,7 @@ use crate::offering::slave_opened;
 use access::Report;
 use access::refused;
 use answers::Answer;
-use openings::good_length;
+use limits::length_allowed;
 use openings::impossible;
 
 // `slave_write` over a link's fields, lent one by one.
@@ -30,13 +30,14 @@ pub fn slave_write_fields(
     if impossible(*index, *length, length_write_read, watchdog) {
         return refused(Answer::ImpossibleLink);
     }
-    if good_length(bytes) {
-        let report = slave_opened(bytes.len(), words, log);
+    let n = bytes.len();
+    if length_allowed(n) {
+        let report = slave_opened(n, words, log);
         if report.logged == 0 {
             return report;
         }
         *index = 0;
-        *length = bytes.len();
+        *length = n;
         copy_in(data, bytes);
         return report;
     }

@@ -5,7 +5,7 @@ use Rattle.phases.proofs.lengths.fits.Tie as tie
 
 returns : tie.Need-returns
 unfolding fits
-returns c = rw (c .before .if1 .taken) (c .good2 .ensures)
+returns c = rw (c .before .if1 .taken) (c .length-allowed .ensures)
 
 returns-2 : tie.Need-returns-2
 unfolding fits

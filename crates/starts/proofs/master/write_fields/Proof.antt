@@ -33,7 +33,7 @@ returns-2 c =
     let rest = read CR2 (getD ws 1 0) ∷ write CR2 (started (getD ws 1 0) (sadd16 (x .addr)) (length (x .bytes .now)) false (x .autoend)) ∷ [] in
     let l′ = linkOf (begun (x .addr) (length (x .bytes .now))) e (x .read-len) (over (x .bytes .now) (x .«data» .now)) in
     settled-possible (writeStart (x .addr) (x .bytes .now) (x .read-len) (x .autoend) (getD ws 0 0) (getD ws 1 0) l) ws l (sym (c .before .before .before .before .before .before .before .before .impossible .ensures) ∙ c .before .before .before .before .before .before .before .if1 .left)
-    (waits (getD ws 0 0) rest l l′ ws (starting (getD ws 0 0)) (goodLength (x .bytes .now)) (rw (c .before .before .before .before .before .before .good-length .ensures) at (c .before .before .before .before .write-opened .ensures l l′)) (c .if2 .taken))
+    (waits (getD ws 0 0) rest l l′ ws (starting (getD ws 0 0)) (goodLength (x .bytes .now)) (rw (c .before .before .before .before .before .before .length-allowed .ensures) at (c .before .before .before .before .write-opened .ensures l l′)) (c .if2 .taken))
 
 copy-in-requires : tie.Need-copy-in-requires
 copy-in-requires c κs =
@@ -43,7 +43,7 @@ copy-in-requires c κs =
     let l = linkAt (x .address .now) (x .watchdog .now) (x .index .now) (x .length .now) e (x .length-write-read .now) (x .«data» .now) in
     let rest = read CR2 (getD ws 1 0) ∷ write CR2 (started (getD ws 1 0) (sadd16 (x .addr)) (length (x .bytes .now)) false (x .autoend)) ∷ [] in
     let l′ = linkOf (begun (x .addr) (length (x .bytes .now))) e (x .read-len) (over (x .bytes .now) (x .«data» .now)) in
-    good-255 (x .bytes .now) (good-then (getD ws 0 0) rest l l′ ws (omega arith) (starting (getD ws 0 0)) (goodLength (x .bytes .now)) (rw (c .before .before .before .before .before .before .before .good-length .ensures) at (c .before .before .before .before .before .write-opened .ensures l l′)) (c .before .if2 .left))
+    good-255 (x .bytes .now) (good-then (getD ws 0 0) rest l l′ ws (omega arith) (starting (getD ws 0 0)) (goodLength (x .bytes .now)) (rw (c .before .before .before .before .before .before .before .length-allowed .ensures) at (c .before .before .before .before .before .write-opened .ensures l l′)) (c .before .if2 .left))
 
 returns-3 : tie.Need-returns-3
 returns-3 c =
@@ -55,7 +55,7 @@ returns-3 c =
     let l′ = linkOf (begun (x .addr) (length (x .bytes .now))) e (x .read-len) (over (x .bytes .now) (x .«data» .now)) in
     rw (c .copy-in .ensures)
     (settled-possible (writeStart (x .addr) (x .bytes .now) (x .read-len) (x .autoend) (getD ws 0 0) (getD ws 1 0) l) ws l (sym (c .before .before .before .before .before .before .before .before .before .before .impossible .ensures) ∙ c .before .before .before .before .before .before .before .before .before .if1 .left)
-    (goes (getD ws 0 0) rest l l′ ws (omega arith) (starting (getD ws 0 0)) (goodLength (x .bytes .now)) (rw (c .before .before .before .before .before .before .before .before .good-length .ensures) at (c .before .before .before .before .before .before .write-opened .ensures l l′)) (c .before .before .if2 .left)))
+    (goes (getD ws 0 0) rest l l′ ws (omega arith) (starting (getD ws 0 0)) (goodLength (x .bytes .now)) (rw (c .before .before .before .before .before .before .before .before .length-allowed .ensures) at (c .before .before .before .before .before .before .write-opened .ensures l l′)) (c .before .before .if2 .left)))
 
 pub write-fields-spec : {M : Type 1} → statement M
 write-fields-spec = tie.close (tie.spec (λ c κs. tt) (λ c κs. tt) returns (λ c κs. tt) (λ c κs. tt) (λ c. search needs) returns-2 copy-in-requires (λ c. search needs) returns-3)

@@ -29,10 +29,10 @@ returns-2 c =
     let ws = x .words .now in
     let l = linkAt a (x .watchdog) (x .index .now) (x .length .now) e (x .length-write-read) (x .«data» .now) in
     outcome-of (slaveWrite (x .bytes .now)) ws l (sym (c .before .before .before .before .before .before .before .before .before .impossible .ensures) ∙ c .before .before .before .before .before .before .before .before .if1 .left)
-    (rw (sym (c .before .before .before .before .before .before .before .good-length .ensures) ∙ c .before .before .before .before .before .before .if2 .taken) (kept (onSlaveWrite true (x .bytes .now) (getD ws 0 0) l) l ws (c .before .before .before .before .slave-opened .ensures) (c .if3 .taken) (omega arith)))
+    (rw (sym (c .before .before .before .before .before .before .before .length-allowed .ensures) ∙ c .before .before .before .before .before .before .if2 .taken) (kept (onSlaveWrite true (x .bytes .now) (getD ws 0 0) l) l ws (c .before .before .before .before .slave-opened .ensures) (c .if3 .taken) (omega arith)))
 
 copy-in-requires : tie.Need-copy-in-requires
-copy-in-requires c κs = good-255 (c .before .before .before .before .before .before .before .before .before .before .before .before .before .before .before .before .args .bytes .now) (sym (c .before .before .before .before .before .before .before .before .good-length .ensures) ∙ c .before .before .before .before .before .before .before .if2 .taken)
+copy-in-requires c κs = good-255 (c .before .before .before .before .before .before .before .before .before .before .before .before .before .before .before .before .args .bytes .now) (sym (c .before .before .before .before .before .before .before .before .length-allowed .ensures) ∙ c .before .before .before .before .before .before .before .if2 .taken)
 
 returns-3 : tie.Need-returns-3
 returns-3 c =
@@ -41,7 +41,7 @@ returns-3 c =
     let ws = x .words .now in
     let l = linkAt a (x .watchdog) (x .index .now) (x .length .now) e (x .length-write-read) (x .«data» .now) in
     outcome-of (slaveWrite (x .bytes .now)) ws l (sym (c .before .before .before .before .before .before .before .before .before .before .before .impossible .ensures) ∙ c .before .before .before .before .before .before .before .before .before .before .if1 .left)
-    (rw (sym (c .before .before .before .before .before .before .before .before .before .good-length .ensures) ∙ c .before .before .before .before .before .before .before .before .if2 .taken, c .copy-in .ensures) (gone (onSlaveWrite true (x .bytes .now) (getD ws 0 0) l) l ws (c .before .before .before .before .before .before .slave-opened .ensures) (c .before .before .if3 .left) refl))
+    (rw (sym (c .before .before .before .before .before .before .before .before .before .length-allowed .ensures) ∙ c .before .before .before .before .before .before .before .before .if2 .taken, c .copy-in .ensures) (gone (onSlaveWrite true (x .bytes .now) (getD ws 0 0) l) l ws (c .before .before .before .before .before .before .slave-opened .ensures) (c .before .before .if3 .left) refl))
 
 returns-4 : tie.Need-returns-4
 returns-4 c =
@@ -50,7 +50,7 @@ returns-4 c =
     let ws = x .words .now in
     let l = linkAt a (x .watchdog) (x .index .now) (x .length .now) e (x .length-write-read) (x .«data» .now) in
     outcome-of (slaveWrite (x .bytes .now)) ws l (sym (c .before .before .before .before .impossible .ensures) ∙ c .before .before .before .if1 .left)
-    (rw (sym (c .before .before .good-length .ensures) ∙ c .before .if2 .left, c .refused2 .ensures) (bare (says 6 []) [] ws l l refl refl refl refl))
+    (rw (sym (c .before .before .length-allowed .ensures) ∙ c .before .if2 .left, c .refused2 .ensures) (bare (says 6 []) [] ws l l refl refl refl refl))
 
 pub slave-write-fields-spec : {M : Type 1} → statement M
 slave-write-fields-spec = tie.close (tie.spec (λ c κs. tt) (λ c κs. tt) returns (λ c κs. tt) (λ c κs. tt) (λ c. search needs) returns-2 copy-in-requires (λ c. search needs) returns-3 (λ c κs. tt) returns-4)
