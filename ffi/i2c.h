@@ -28,8 +28,8 @@ struct i2c_link {
  * bits, second address, mask. A number that is not 0 says yes; a mask of 7 and above leaves no bit compared. */
 #define I2C_CONFIG const uint32_t config[10]
 
-/* What the link held before does not matter here; every other call wants a link that was constructed, or answers 12 where
- * it is impossible. */
+/* What the link held before does not matter here, and stays where this is refused; every other call wants a link that was
+ * constructed, or answers 12 where it is impossible. */
 void i2c_construct(struct i2c_link *link, I2C_CONFIG, uint32_t clock, I2C_WORDS, I2C_LOG, uint64_t out[6]);
 
 void i2c_check_isr_flags(struct i2c_link *link, I2C_WORDS, I2C_LOG, uint64_t out[6]);
@@ -50,7 +50,8 @@ void i2c_slave_sbc(const struct i2c_link *link, bool on, I2C_WORDS, I2C_LOG, uin
 void i2c_set_address(const struct i2c_link *link, uint16_t address, I2C_WORDS, I2C_LOG, uint64_t out[6]);
 
 /* A parked call of the blocking driver, kept by the caller: kind, address, length to send, length to receive, phase, the
- * phase's word, count. Written by a call that waits, read by i2c_blocking_resume. */
+ * phase's word, count. Written by a call that waits, read by i2c_blocking_resume. Its words are those that were not taken yet (out[1] of the
+ * last call says how many were), then new ones. */
 #define I2C_PARKED uint64_t parked[7]
 
 void i2c_blocking_write(I2C_PARKED, uint8_t address, I2C_BYTES, I2C_WORDS, I2C_LOG, uint64_t out[6]);
@@ -61,12 +62,14 @@ void i2c_blocking_slave_read(I2C_PARKED, I2C_BUFFER, I2C_WORDS, I2C_LOG, uint64_
 void i2c_blocking_slave_wait_addressed(I2C_PARKED, I2C_WORDS, I2C_LOG, uint64_t out[6]);
 void i2c_blocking_resume(I2C_PARKED, I2C_BYTES, I2C_BUFFER, I2C_WORDS, I2C_LOG, uint64_t out[6]);
 
-/* An event: 0 an address match, any other number a byte received. */
 void i2c_blocking_slave_addressed(I2C_WORDS, I2C_LOG, uint64_t out[6]);
 void i2c_blocking_slave_sbc(bool on, I2C_WORDS, I2C_LOG, uint64_t out[6]);
+
+/* An event: 0 an address match, any other number a byte received. */
 void i2c_blocking_listen(uint8_t event, I2C_WORDS, I2C_LOG, uint64_t out[6]);
 void i2c_blocking_unlisten(uint8_t event, I2C_WORDS, I2C_LOG, uint64_t out[6]);
 void i2c_blocking_clear_irq(uint8_t event, I2C_LOG, uint64_t out[6]);
+
 void i2c_blocking_construct(I2C_CONFIG, uint32_t clock, I2C_WORDS, I2C_LOG, uint64_t out[6]);
 
 #endif

@@ -74,7 +74,8 @@ pub fn resume(
     run(call, send, receive, &none, log)
 }
 
-// Begins a call and runs it. A slice of 0 or over 255 bytes is answered before any access, and ends the call.
+// Begins a call and runs it. A slice of 0 or over 255 bytes, or one that the kind does not have, is answered (6) before any access, and
+// ends the call.
 pub fn begin(
     kind: Kind,
     address: u8,

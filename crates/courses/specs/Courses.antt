@@ -55,7 +55,7 @@ abbrev pub Asked : Bool → Bool → List ℕ → ℕ → ℕ → List ℕ → L
 Asked true hears ws t g log log′ = (hears ≡ true) × (length ws ≡ t + 1) × (g + 2 ≤ length log) × (getD ws t 0 has RXNE ≡ true) × (log′ ≡ sets log g (offset ISR ∷ getD ws t 0 ∷ []))
 Asked false hears ws t g log log′ = log′ ≡ log
 
--- STOPF alone, with nothing to flush, outside the wait for TC
+-- STOPF, and no flag that the wait looks at before it, with nothing to flush, outside the wait for TC
 pub record Quiet (k : Kind) (isr first second : ℕ) : Type 0 where
   pub once : restarts k ≡ false
   pub txis : first has TXIS ≡ false

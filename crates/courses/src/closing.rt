@@ -56,7 +56,7 @@ fn wanted(kind: Kind) -> Wanted
     Wanted::Txis
 }
 
-// STOPF alone, with nothing to flush.
+// STOPF, and no flag that the wait looks at before it, with nothing to flush.
 fn quiet(kind: Kind, isr: u32, first: u32, second: u32) -> bool
     ensures { λ r. ⌜ (r ≡ true → Quiet kind isr first second) ⌝ }
 {

@@ -1,4 +1,4 @@
-// The accesses before the first wait, made at once where START is clear and no word and no room is missing.
+// The accesses before the first wait of a master's call, made at once where START is clear and there are three words and room for all.
 ghost use Prim.Native.Nat.{ℕ, _+_, _<_};
 ghost use mathlib.Core.Path.{_≡_};
 ghost use mathlib.Core.Bool.{true, false};

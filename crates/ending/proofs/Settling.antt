@@ -1,4 +1,4 @@
--- A plan that was settled by `registers`: either it was refused and logged nothing, or it went through.
+-- A plan that was settled as `access` says: either it was refused and logged nothing, or it went through.
 use Prim.Native.Nat.{ℕ, _<_}
 use mathlib.Core.Path.{_≡_, refl, sym}
 use mathlib.Core.Bool.{Bool, true, false, cond}

@@ -1,6 +1,6 @@
-// Construction of the non-blocking driver on a link in the caller's memory, whatever that held before.
+// Construction of the non-blocking driver on a link in the caller's memory, whatever that held before. A refusal leaves it.
 ghost use Rattle.flat.specs.Configured.{configOf};
-ghost use Rattle.nonblocking.specs.Construct.{Constructed};
+ghost use Rattle.ffi.specs.Renewed.{Renewed};
 use access::Report;
 use flat::configured::config_of;
 use nonblocking::link::Link;
@@ -12,7 +12,7 @@ pub fn construct(
     words: &[u32],
     log: &mut [u32],
 ) -> Report
-    ensures { λ r. ⌜ Constructed (configOf (now (config .entry))) clock (now (words .entry)) (now (log .entry)) r (now (link .exit)) (now (log .exit)) ⌝ }
+    ensures { λ r. ⌜ Renewed (configOf (now (config .entry))) clock (now (words .entry)) (now (log .entry)) r (now (link .entry)) (now (link .exit)) (now (log .exit)) ⌝ }
 {
     construct_fields(
         &mut link.address,
@@ -42,9 +42,15 @@ fn construct_fields(
     words: &[u32],
     log: &mut [u32],
 ) -> Report
-    ensures { λ r. ⌜ Constructed (configOf (now (config .entry))) clock (now (words .entry)) (now (log .entry)) r
+    ensures { λ r. ⌜ Renewed (configOf (now (config .entry))) clock (now (words .entry)) (now (log .entry)) r
+        (record { address = now (address .entry); watchdog = now (watchdog .entry); index = now (index .entry); length = now (length .entry); errors = now (errors .entry); «length_write_read» = now («length_write_read» .entry); «data» = now («data» .entry) })
         (record { address = now (address .exit); watchdog = now (watchdog .exit); index = now (index .exit); length = now (length .exit); errors = now (errors .exit); «length_write_read» = now («length_write_read» .exit); «data» = now («data» .exit) }) (now (log .exit)) ⌝ }
 {
+    let called = Link::i2c1(config_of(config), clock, words, log);
+    let report = called.report;
+    if report.logged == 0 {
+        return report;
+    }
     *address = 0;
     *watchdog = 0;
     *index = 0;
@@ -52,7 +58,5 @@ fn construct_fields(
     *errors = 0;
     *length_write_read = 0;
     *data = [0u8; 255];
-    let called = Link::i2c1(config_of(config), clock, words, log);
-    let report = called.report;
     report
 }

@@ -2,10 +2,10 @@
 ghost use Prim.Native.Nat.{ℕ};
 ghost use mathlib.Core.List.{List};
 ghost use lib.ListN.{length as size};
+ghost use Rattle.ffi.specs.Renewed.{Renewed};
 ghost use Rattle.ending.specs.Call.{checkIsrFlags, masterWrite, masterWriteRead, masterRead, slaveWrite, executeWatchdog, getErrorsReset};
 ghost use Rattle.ending.specs.Outcome.{outcome, Matches};
 ghost use Rattle.nonblocking.specs.Model.{model};
-ghost use Rattle.nonblocking.specs.Construct.{Constructed};
 ghost use Rattle.flat.specs.Configured.{configOf};
 ghost use Rattle.flat.specs.Out.{Out};
 use crate::fresh;
@@ -107,7 +107,7 @@ pub extern "C" fn i2c_get_errors_reset(link: &mut Link, out: &mut [u64; 6])
     put_errors(nonblocking::lent::get_errors_reset(link), out);
 }
 
-// The configuration is ten numbers; the link is fresh afterwards, whatever it held before.
+// The configuration is ten numbers. The link is fresh afterwards, whatever it held before; a refusal leaves it.
 #[no_mangle]
 pub extern "C" fn i2c_construct(
     link: &mut Link,
@@ -117,7 +117,7 @@ pub extern "C" fn i2c_construct(
     log: &mut [u32],
     out: &mut [u64; 6],
 )
-    ensures { λ _. ⌜ Out (λ r. Constructed (configOf (now (config .entry))) clock (now (words .entry)) (now (log .entry)) r (now (link .exit)) (now (log .exit))) (now (out .exit)) ⌝ }
+    ensures { λ _. ⌜ Out (λ r. Renewed (configOf (now (config .entry))) clock (now (words .entry)) (now (log .entry)) r (now (link .entry)) (now (link .exit)) (now (log .exit))) (now (out .exit)) ⌝ }
 {
     put(fresh::construct(link, config, clock, words, log), out);
 }

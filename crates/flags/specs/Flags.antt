@@ -1,4 +1,4 @@
--- What an ISR word says. This file alone knows the flag order of document 01 for `check_isr_flags`.
+-- What an ISR word says. The flag order of document 01 for `check_isr_flags` stands here; the code's groups of flags are joined to it in proofs/FlagOrder.
 use Prim.Native.Nat.{ℕ}
 use mathlib.Core.Bool.{cond}
 use Rattle.flags.specs.declared.Flag.{Flag}

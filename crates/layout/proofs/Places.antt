@@ -1,5 +1,5 @@
 -- Document 01's list of fields once more: the first bit and the width of each, register by register. A field that no word is formed with, as
--- ADD10, stands in no contract.
+-- ADD10, stands in few contracts.
 use Prim.Native.Nat.{ℕ}
 use mathlib.Core.Path.{_≡_, refl}
 use mathlib.Core.List.{List, [], _∷_, map}

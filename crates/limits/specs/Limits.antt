@@ -15,6 +15,6 @@ modeOf speed =
 abbrev pub filterAllowed : ℕ → Bool
 filterAllowed cycles = leb cycles 16
 
--- a transfer has 1 to 255 bytes
+-- the bytes of a call that sends or receives are 1 to 255
 abbrev pub lengthAllowed : ℕ → Bool
 lengthAllowed n = ltb 0 n && leb n 255

@@ -2,6 +2,7 @@
 ghost use mathlib.Core.Path.{_≡_};
 ghost use Prim.Native.Nat.{_*_, _%_};
 ghost use mathlib.Core.Bool.{true, false};
+ghost use Rattle.layout.specs.Layout.{ADD10, _has_};
 ghost use Rattle.layout.specs.Words.{started, sized, refused, stopped, starting, sadd8, sadd16};
 use fields::Field;
 use fields::low_byte;
@@ -79,6 +80,13 @@ impl Cr2 {
         ensures { λ r. ⌜ r ≡ starting cr2 ⌝ }
     {
         Cr2::START.is_set(cr2)
+    }
+
+    // Whether the address is one of ten bits. Neither driver sets it.
+    pub fn ten_bits(cr2: u32) -> bool
+        ensures { λ r. ⌜ r ≡ (cr2 has ADD10) ⌝ }
+    {
+        Cr2::ADD10.is_set(cr2)
     }
 
     // The word of a start: a write without `autoend` is the first half of a `write_read`.

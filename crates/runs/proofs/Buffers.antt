@@ -1,6 +1,6 @@
 -- The buffer law.
-use Prim.Native.Nat.{ℕ, zero, suc, _+_}
-use mathlib.Core.Path.{_≡_, refl, sym, ap, ap₂, _∙_}
+use Prim.Native.Nat.{ℕ, zero, suc, _+_, _≤_, zero-le}
+use mathlib.Core.Path.{_≡_, refl, sym, ap, ap₂, _∙_, subst}
 use mathlib.Core.Bool.{Bool, true, false, cond}
 use mathlib.Core.List.{List, [], _∷_}
 use native.Mathlib.Nat.{add-zero}
@@ -23,13 +23,14 @@ use Rattle.parked.specs.declared.Next.{Next}
 use Rattle.parked.specs.declared.Next.the-variants.{Read as ReadA, Write as WriteA, Over}
 use Rattle.parked.specs.declared.Parked.{Parked}
 use Rattle.phases.specs.Kinds.{incoming, restarts}
-use Rattle.parked.specs.Wants.{more, wantsOpening, wantsByte, wantsAt, wants}
+use Rattle.parked.specs.Wants.{span, more, wantsOpening, wantsByte, wantsAt, wants}
 use Rattle.parked.specs.After.{whole, addrAnswer, stopAnswer, answer, turnsAs, movesAs, turns, moves, after}
 use Rattle.phases.specs.Phases.{role}
 use Rattle.parked.specs.Refusals.{wrong}
 use Rattle.runs.specs.Run.{Outcome, stopped, kept, step, full, next, runs, outcome}
 use Rattle.runs.specs.BufferLaw.{hearing, heardIn, heard, place, BufferLaw}
 use Rattle.runs.proofs.OneAccess.{outcome-wrong, outcome-right}
+use Rattle.runs.proofs.Sound.{Sound, sound-of, kept-run}
 
 abbrev keeps : Next → Bool
 keeps (ReadA o k) = k
@@ -191,9 +192,22 @@ module _ (s : List ℕ) where
   told-as n p b ws true e = rw (outcome-wrong s p b ws n e) (λ x h. not-five (λ z. omega arith) h)
   told-as n p b ws false e = rw (outcome-right s p b ws n e) (told n p b ws)
 
+-- the place of the next byte is in the buffer, or just behind its last byte
+below : (t : Bool) (c r s m : ℕ) → c ≤ cond t r s → r ≡ m → cond t c 0 ≤ m
+below true c r s m h e = omega (arith, h, e)
+below false c r s m h e = zero-le
+
+place-below : (n m : ℕ) (q : Parked) → Sound n m q → place q ≤ m
+unfolding place span
+place-below n m q h = below (incoming (q .kind)) (q .count) (q .receive) (q .send) m (h .low) (h .receives)
+
+inside-as : (s : List ℕ) (n : ℕ) (p : Parked) (b ws : List ℕ) → wrong p (length s) (length b) ≡ false → place (outcome s n p b ws .parked) ≤ length b
+inside-as s n p b ws e = rw (outcome-right s p b ws n e) (place-below (length s) (length b) _ (kept-run s n p b ws (sound-of p (length s) (length b) e) .sound))
+
 pub buffer-law : BufferLaw
 buffer-law = record {
   filled = λ s n p b ws. filled-as s n p b ws (wrong p (length s) (length b)) refl .bytes;
+  inside = λ s n p b ws e. subst (λ (x : ℕ). x ≤ length b) (filled-as s n p b ws (wrong p (length s) (length b)) refl .count) (inside-as s n p b ws e);
   counted = λ s n p b ws. filled-as s n p b ws (wrong p (length s) (length b)) refl .count;
   told = λ s n p b ws x e. told-as s n p b ws (wrong p (length s) (length b)) refl x e;
 }

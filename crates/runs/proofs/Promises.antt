@@ -1,6 +1,6 @@
 -- What a contract promises where it cites `Whole`, and what the two laws say, once more and in document 01's words. Only contracts cite these
 -- definitions, so a weaker one would be proved as well.
-use Prim.Native.Nat.{ℕ, _+_}
+use Prim.Native.Nat.{ℕ, _+_, _≤_}
 use mathlib.Core.Path.{_≡_, refl, subst}
 use mathlib.Core.Bool.{Bool, false}
 use mathlib.Core.List.{List, [], _∷_, _++_}
@@ -9,7 +9,7 @@ use lib.Seq.{sets}
 use Rattle.answers.specs.Answers.{said, says}
 use Rattle.access.specs.Access.{over}
 use Rattle.parked.specs.declared.Parked.{Parked}
-use Rattle.parked.specs.Refusals.{ended}
+use Rattle.parked.specs.Refusals.{ended, wrong}
 use Rattle.runs.specs.declared.Ran.{Ran}
 use Rattle.runs.specs.Run.{Outcome, joined, outcome, Whole}
 use Rattle.runs.specs.CutLaw.{Cut, accesses, unlessEnded, cutRuns, allWords, CutLaw}
@@ -45,9 +45,10 @@ module _ (s : List ℕ) (p : Parked) (b ws vs : List ℕ) (n k m : ℕ) where
 two-numbers : (a v b w : ℕ) → (accesses (a ∷ v ∷ b ∷ w ∷ []) ≡ 2) × (accesses (a ∷ []) ≡ 0)
 two-numbers a v b w = (refl, refl)
 
--- a run changes no place of the buffer but those of the bytes that came in, one after the other; the count says the next place
+-- a run changes no place of the buffer but those of the bytes that came in, one after the other, all inside it; the count says the next place
 bytes-kept : BufferLaw → (s : List ℕ) (n : ℕ) (p : Parked) (b ws : List ℕ) →
     (outcome s n p b ws .buffer ≡ sets b (place p) (heard s n p b ws))
+    × (wrong p (length s) (length b) ≡ false → place p + length (heard s n p b ws) ≤ length b)
     × (place (outcome s n p b ws .parked) ≡ place p + length (heard s n p b ws))
     × ((x : ℕ) → outcome s n p b ws .answer ≡ says 5 (x ∷ []) → x ≡ outcome s n p b ws .parked .count)
-bytes-kept L s n p b ws = (L .filled s n p b ws, L .counted s n p b ws, L .told s n p b ws)
+bytes-kept L s n p b ws = (L .filled s n p b ws, L .inside s n p b ws, L .counted s n p b ws, L .told s n p b ws)

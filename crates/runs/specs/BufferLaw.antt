@@ -1,8 +1,9 @@
 -- The buffer law. After a run the receive buffer is the one before it, with the bytes that came in stored one after the other from the
--- place that the count says, and nothing else changed. The count then says the next place: a short frame's count says which bytes are new.
-use Prim.Native.Nat.{ℕ, zero, suc, _+_}
+-- place that the count says, and nothing else changed; each of them has its place in the buffer. The count then says the next place: a short
+-- frame's count says which bytes are new.
+use Prim.Native.Nat.{ℕ, zero, suc, _+_, _≤_}
 use mathlib.Core.Path.{_≡_}
-use mathlib.Core.Bool.{Bool, cond}
+use mathlib.Core.Bool.{Bool, false, cond}
 use mathlib.Core.List.{List, [], _∷_}
 use lib.ListN.{length}
 use lib.Seq.{sets}
@@ -37,5 +38,6 @@ place p = cond (incoming (p .kind)) (p .count) 0
 
 pub record BufferLaw : Type 0 where
   pub filled : (s : List ℕ) (n : ℕ) (p : Parked) (b ws : List ℕ) → outcome s n p b ws .buffer ≡ sets b (place p) (heard s n p b ws)
+  pub inside : (s : List ℕ) (n : ℕ) (p : Parked) (b ws : List ℕ) → wrong p (length s) (length b) ≡ false → place p + length (heard s n p b ws) ≤ length b
   pub counted : (s : List ℕ) (n : ℕ) (p : Parked) (b ws : List ℕ) → place (outcome s n p b ws .parked) ≡ place p + length (heard s n p b ws)
   pub told : (s : List ℕ) (n : ℕ) (p : Parked) (b ws : List ℕ) (x : ℕ) → outcome s n p b ws .answer ≡ says 5 (x ∷ []) → x ≡ outcome s n p b ws .parked .count

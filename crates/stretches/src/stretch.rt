@@ -1,4 +1,4 @@
-// Bytes that follow each other: each word of ISR has the wanted flag or none that ends the wait, and no word and no room is missing.
+// Bytes that follow each other: each word of ISR has the wanted flag or none that the wait looks at, and no word and no room is missing.
 ghost use Prim.Native.Nat.{_<_};
 ghost use mathlib.Core.Path.{_≡_};
 ghost use mathlib.Core.Bool.{true};

@@ -59,7 +59,7 @@ pub fn one_by_one(
         logged: 0,
     };
     'transfer: loop {
-        // The first access of a round sends or receives the byte that the last wait found; then the call waits for the next flag.
+        // From the second round on the first access sends or receives the byte that the last wait found; then the call waits for the next flag.
         // STOPF, ADDR, BERR and ARLO end the whole call, and so does a missing word or room.
         loop {
             p = forward(p, send, receive, words, log);

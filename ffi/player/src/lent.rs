@@ -55,11 +55,6 @@ impl Lent {
         (accesses, answer.unwrap_or_else(|| self.strange()))
     }
 
-    /// Whether the answer is 0.
-    pub fn is_done(&self) -> bool {
-        self.out[0] == 0
-    }
-
     fn logged(&self) -> usize {
         usize::try_from(self.out[2]).map_or(self.places, |logged| logged.min(self.places))
     }

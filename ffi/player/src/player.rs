@@ -56,12 +56,7 @@ impl Player {
             }
             Call::LinkNew(with) => match numbers(&with.settings) {
                 Some(config) => {
-                    // The script's link stays where the constructor is refused.
-                    let mut made = self.link.clone();
-                    link::construct(&mut made, &config, with.clock, &mut lent);
-                    if lent.is_done() {
-                        self.link = made;
-                    }
+                    link::construct(&mut self.link, &config, with.clock, &mut lent);
                     After::Link
                 }
                 None => return false,
