@@ -14,12 +14,15 @@ use Rattle.ending.specs.Outcome.{outcome}
 use Rattle.ending.specs.Book.{Event}
 use Rattle.ending.specs.EqualEnding.{step, seen}
 
--- the answers and the accesses of steps on a fresh link
+-- the answers, the accesses and the bytes shown of steps on a fresh link
 abbrev answers : List Step → List Said
 answers steps = map (λ (e : Event). e .answer) (seen fresh steps)
 
 abbrev accesses : List Step → List (List Access)
 accesses steps = map (λ (e : Event). e .accesses) (seen fresh steps)
+
+abbrev shown : List Step → List (List ℕ)
+shown steps = map (λ (e : Event). e .shown) (seen fresh steps)
 
 abbrev check : List ℕ → Step
 check words = step checkIsrFlags words 10
@@ -29,7 +32,7 @@ lost-bus : answers (check (0x200 ∷ []) ∷ step getErrorsReset [] 0 ∷ []) �
 unfolding seen outcome impossible takenAs isSet get
 lost-bus = refl
 
--- document 01's walk: its words, accesses and answers
+-- document 01's walk: its words, accesses, answers and bytes
 walk : List Step
 walk =
     step (masterWriteRead 0x50 (0x01 ∷ 0x40 ∷ []) 2) (0 ∷ 0 ∷ []) 10
@@ -58,3 +61,7 @@ walk-answers :
     answers walk ≡ says 0 [] ∷ says 1 [] ∷ says 1 [] ∷ says 1 [] ∷ says 1 [] ∷ says 1 [] ∷ says 0x44 (0x50 ∷ 1 ∷ 2 ∷ []) ∷ []
 unfolding walk seen outcome impossible started takenAs directionOf isSet get put
 walk-answers = refl
+
+walk-bytes : shown walk ≡ [] ∷ [] ∷ [] ∷ [] ∷ [] ∷ [] ∷ (0x3C ∷ 0x7E ∷ []) ∷ []
+unfolding walk seen outcome impossible started takenAs directionOf isSet get put
+walk-bytes = refl

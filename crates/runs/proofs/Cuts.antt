@@ -18,8 +18,10 @@ use Rattle.parked.specs.declared.Next.the-variants.{Read, Write, Over}
 use Rattle.parked.specs.declared.Parked.{Parked}
 use Rattle.parked.specs.After.{answer, after}
 use Rattle.phases.specs.Phases.{role}
-use Rattle.parked.specs.Refusals.{isNothing, ended, wrong}
-use Rattle.runs.specs.Run.{Outcome, stopped, joined, kept, step, full, next, runs, outcome}
+use Rattle.parked.specs.Refusals.{begun, isNothing, ended, wrong}
+use Rattle.phases.specs.declared.Kind.{Kind}
+use Rattle.phases.specs.Lengths.{lengths}
+use Rattle.runs.specs.Run.{Outcome, stopped, joined, kept, step, full, next, runs, outcome, called}
 use Rattle.runs.specs.CutLaw.{Cut, accesses, unlessEnded, cutRuns, allWords, Spare, CutLaw}
 use Rattle.parked.proofs.Phases.{wants-at}
 use Rattle.runs.proofs.OneAccess.{joined-none, run-over, run-out, full-read, full-write, outcome-wrong, outcome-right}
@@ -181,10 +183,19 @@ module _ (s : List ℕ) (n : ℕ) (p : Parked) (b ws : List ℕ) (m : ℕ) where
   still true e = rw (outcome-wrong s p b ws n e) (λ h k. outcome-wrong s p b ws m e)
   still false e = rw (outcome-right s p b ws n e) (λ h k. outcome-right s _ _ _ m (still-right s n p b ws e k) ∙ stays s m n p b ws h)
 
+joins : (s : List ℕ) (p : Parked) (b : List ℕ) (c : Cut) (cs : List Cut) (m : ℕ) → Spare m (cutRuns s p b [] c cs) → cutRuns s p b [] c cs ≡ outcome s (accesses (cutRuns s p b [] c cs .numbers) + m) p b (allWords c cs)
+joins s p b c cs m h =
+    subst (λ (q : Outcome). Spare m q → q ≡ outcome s (accesses (q .numbers) + m) p b (allWords c cs)) (sym (cut-from s p b [] c cs))
+    (λ k. sym (enough s (cutRoom s p b [] c cs) p b (allWords c cs) m (wrong p (length s) (length b)) refl k)) h
+
+-- a call that is begun with good lengths is run
+begin-runs : (k : Kind) (address : ℕ) (s : List ℕ) (n : ℕ) (b ws : List ℕ) → lengths k (length s) (length b) ≡ true → called k address s n b ws ≡ outcome s n (begun k address (length s) (length b)) b ws
+unfolding called
+begin-runs k address s n b ws g = rw g
+
 pub cut-law : CutLaw
 cut-law = record {
-  joins = λ s p b c cs m h.
-      subst (λ (q : Outcome). Spare m q → q ≡ outcome s (accesses (q .numbers) + m) p b (allWords c cs)) (sym (cut-from s p b [] c cs))
-      (λ k. sym (enough s (cutRoom s p b [] c cs) p b (allWords c cs) m (wrong p (length s) (length b)) refl k)) h;
+  joins = joins;
+  begins = λ k address s b c cs m g h. joins s (begun k address (length s) (length b)) b c cs m h ∙ sym (begin-runs k address s _ b (allWords c cs) g);
   nothingNew = λ s n p b ws m h e. still s n p b ws m (wrong p (length s) (length b)) refl h e;
 }

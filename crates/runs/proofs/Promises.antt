@@ -2,16 +2,18 @@
 -- definitions, so a weaker one would be proved as well.
 use Prim.Native.Nat.{ℕ, _+_, _≤_}
 use mathlib.Core.Path.{_≡_, refl, subst}
-use mathlib.Core.Bool.{Bool, false}
+use mathlib.Core.Bool.{Bool, true, false}
 use mathlib.Core.List.{List, [], _∷_, _++_}
 use lib.ListN.{length, drop}
 use lib.Seq.{sets}
 use Rattle.answers.specs.Answers.{said, says}
 use Rattle.access.specs.Access.{over}
 use Rattle.parked.specs.declared.Parked.{Parked}
-use Rattle.parked.specs.Refusals.{ended, wrong}
+use Rattle.parked.specs.Refusals.{begun, ended, wrong}
+use Rattle.phases.specs.declared.Kind.{Kind}
+use Rattle.phases.specs.Lengths.{lengths}
 use Rattle.runs.specs.declared.Ran.{Ran}
-use Rattle.runs.specs.Run.{Outcome, joined, outcome, Whole}
+use Rattle.runs.specs.Run.{Outcome, joined, outcome, called, resumed, Whole}
 use Rattle.runs.specs.CutLaw.{Cut, accesses, unlessEnded, cutRuns, allWords, CutLaw}
 use Rattle.runs.specs.BufferLaw.{heard, place, BufferLaw}
 
@@ -40,6 +42,20 @@ module _ (s : List ℕ) (p : Parked) (b ws vs : List ℕ) (n k m : ℕ) where
   cut-once L e h =
       subst (λ (t : Bool). (unlessEnded t before later .answer ≡ says 10 [] → m ≡ 0) → unlessEnded t before later ≡ outcome s (accesses (unlessEnded t before later .numbers) + m) p b (ws ++ vs)) e
       (L .joins s p b (record { words = ws; room = n }) (record { words = vs; room = k } ∷ []) m) h
+
+-- The same of the calls that a host makes: one is begun with good lengths over some words, has not ended, and is resumed over the rest of them and
+-- new ones. Both joined are one call begun over all the words.
+module _ (kind : Kind) (address : ℕ) (s b ws vs : List ℕ) (n k m : ℕ) where
+  abbrev first : Outcome
+  first = called kind address s n b ws
+
+  abbrev second : Outcome
+  second = resumed s k (first .parked) 0 (first .buffer) (drop (first .taken) ws ++ vs)
+
+  call-cut-once : CutLaw → lengths kind (length s) (length b) ≡ true → ended (first .parked) ≡ false → (second .answer ≡ says 10 [] → m ≡ 0) →
+      joined (first .taken) (first .numbers) second ≡ called kind address s (accesses (first .numbers ++ second .numbers) + m) b (ws ++ vs)
+  unfolding called
+  call-cut-once L g = rw g (λ e h. cut-once s (begun kind address (length s) (length b)) b ws vs n k m L e h)
 
 -- an access has two numbers in the log
 two-numbers : (a v b w : ℕ) → (accesses (a ∷ v ∷ b ∷ w ∷ []) ≡ 2) × (accesses (a ∷ []) ≡ 0)
