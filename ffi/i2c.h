@@ -50,8 +50,8 @@ void i2c_slave_sbc(const struct i2c_link *link, bool on, I2C_WORDS, I2C_LOG, uin
 void i2c_set_address(const struct i2c_link *link, uint16_t address, I2C_WORDS, I2C_LOG, uint64_t out[6]);
 
 /* A parked call of the blocking driver, kept by the caller: kind, address, length to send, length to receive, phase, the
- * phase's word, count. Written by a call that waits, read by i2c_blocking_resume. Its words are those that were not taken yet (out[1] of the
- * last call says how many were), then new ones. */
+ * phase's word, count. Written by a call that waits, read by i2c_blocking_resume, whose words are those that were not taken
+ * yet (out[1] of the last call says how many were), then new ones. */
 #define I2C_PARKED uint64_t parked[7]
 
 void i2c_blocking_write(I2C_PARKED, uint8_t address, I2C_BYTES, I2C_WORDS, I2C_LOG, uint64_t out[6]);

@@ -28,7 +28,7 @@ pub fn text(machine: &str, lines: &[Line], sizes: &[Size], states: &[State]) -> 
         ));
     }
     put(
-        "\n### Code\n\nBytes of machine code of each measured function, with what was inlined into it.\n"
+        "\n### Code\n\nBytes of machine code of each measured function, with what was inlined into it, and of what ours share. What only the constructors need is left out.\n"
             .into(),
     );
     put("| function | original | ours |".into());

@@ -1,10 +1,10 @@
 -- Each call, made of two links that agree.
 use Prim.Native.Nat.{ℕ, suc, _-_, _≤_}
-use mathlib.Core.Path.{_≡_, refl, sym, ap, subst}
+use mathlib.Core.Path.{_≡_, refl, ap}
 use mathlib.Core.Bool.{Bool, true, false}
 use mathlib.Core.List.{List, [], _∷_}
 use lib.ListN.{length, replicate}
-use lib.Dec.{T, eqb, ltb, leb, leb→le}
+use lib.Dec.{T, eqb}
 use Rattle.layout.specs.Layout.{CR2, ISR}
 use Rattle.layout.specs.Words.{starting}
 use Rattle.flags.specs.Flags.{takenAs}
@@ -18,7 +18,8 @@ use Rattle.ending.specs.Book.{Book, Event, Receiving, closed, byRead, by
 use Rattle.ending.specs.EqualEnding.{hide, hideShown, hideTold, Sourced}
 use Rattle.ending.proofs.Lists.{zeros-same, take-same}
 use Rattle.ending.proofs.Agree.{Phase, Own, Agree, Twins, twins, own-over, with-errors, told-agree, both-at, front-same, opened-agree, written-agree}
-use Rattle.ending.proofs.OneCheck.{seenAs, flag-tail, and-right, nothing-shown}
+use Rattle.ending.proofs.OneCheck.{seenAs, flag-tail, nothing-shown}
+use Rattle.ending.proofs.Outcomes.{good-255}
 
 -- one call as it is seen in both runs, and the links after it
 pub record Alike (b : Book) (s₁ s₂ : Event) (k₁ k₂ : Link) : Type 0 where
@@ -44,10 +45,6 @@ plain call b g x k₁ k₂ t =
       places = refl;
       alike = λ c. record { compared = refl; fed = refl; links = t; sourced₁ = nothing-shown call g x b; sourced₂ = nothing-shown call g x b };
     }
-
--- a good length is at most 255
-pub good-fits : (bytes : List ℕ) → goodLength bytes ≡ true → length bytes ≤ 255
-good-fits bytes q = leb→le (length bytes) 255 (and-right (ltb 0 (length bytes)) (leb (length bytes) 255) (subst T (sym q) tt))
 
 module _ (b : Book) (c : Common) (e₁ e₂ h₁ h₂ : ℕ) (d₁ d₂ : List ℕ) (A : Agree b (c .index) (c .length) e₁ e₂ h₁ h₂ d₁ d₂) (k : c .length ≤ 255) where
   -- the two links
@@ -78,7 +75,7 @@ module _ (b : Book) (c : Common) (e₁ e₂ h₁ h₂ : ℕ) (d₁ d₂ : List �
   slave-both : (bytes : List ℕ) (w : ℕ) (s : Bool) → goodLength bytes ≡ s → Both (slaveWrite bytes) b (onSlaveWrite s bytes w left) (onSlaveWrite s bytes w right)
   slave-both bytes w false q = plain (slaveWrite bytes) b _ _ _ _ (twins c A)
   slave-both bytes w true q =
-      plain (slaveWrite bytes) b _ _ _ _ (twins (turned (length bytes) c) (written-agree b d₁ d₂ bytes (b .afterRead) (good-fits bytes q) (A .own)))
+      plain (slaveWrite bytes) b _ _ _ _ (twins (turned (length bytes) c) (written-agree b d₁ d₂ bytes (b .afterRead) (good-255 bytes q) (A .own)))
 
   -- the watchdog is the same in both, and so is what it does
   watchdog-both : (s t : Bool) (w v u : ℕ) → Both executeWatchdog b (onWatchdog s t w v u left) (onWatchdog s t w v u right)
@@ -121,10 +118,10 @@ module _ (b : Book) (c : Common) (e₁ e₂ h₁ h₂ : ℕ) (d₁ d₂ : List �
   pub call-both : (call : Call) (w v u : ℕ) → Both call b (planOf call w v u left) (planOf call w v u right)
   call-both (masterWrite address bytes) w v u =
       start-both (masterWrite address bytes) (starting w) (goodLength bytes) w _ _ _ (twins c A)
-      (λ q. twins (begun address (length bytes)) (written-agree b d₁ d₂ bytes false (good-fits bytes q) (own-second 0)))
+      (λ q. twins (begun address (length bytes)) (written-agree b d₁ d₂ bytes false (good-255 bytes q) (own-second 0)))
   call-both (masterWriteRead address bytes n) w v u =
       start-both (masterWriteRead address bytes n) (starting w) (goodLength bytes) w _ _ _ (twins c A)
-      (λ q. twins (begun address (length bytes)) (written-agree b d₁ d₂ bytes false (good-fits bytes q) (own-second n)))
+      (λ q. twins (begun address (length bytes)) (written-agree b d₁ d₂ bytes false (good-255 bytes q) (own-second n)))
   call-both (masterRead address n) w v u =
       start-both (masterRead address n) (starting w) true w _ _ _ (twins c A)
       (λ q. twins (begun address n) (opened-agree b byRead true (zeros-same n d₁ d₂ (A .own .size)) (own-over (replicate n 0) own-read)))

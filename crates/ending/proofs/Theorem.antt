@@ -20,7 +20,7 @@ use Rattle.ending.specs.EqualEnding.{ran, seen, compared, Clean, AllSour
 use Rattle.ending.proofs.Lists.{zeros-same}
 use Rattle.ending.proofs.Agree.{Own, Twins, twins, own-over, opened-agree, written-agree}
 use Rattle.ending.proofs.OneCheck.{seenAs}
-use Rattle.ending.proofs.OneCall.{good-fits}
+use Rattle.ending.proofs.Outcomes.{good-255}
 use Rattle.ending.proofs.OneStep.{possible-second, step-alike}
 use Rattle.ending.proofs.Histories.{history-room}
 
@@ -119,13 +119,13 @@ start-twins (masterWrite address bytes) w v u w′ v′ u′ l₁ l₂ t a₁ a�
     let s₂ = start-accepted (starting w′) (goodLength bytes) w′ _ l₂ _ a₂ in
     subst₂ (λ (x y : Link). Twins (written bytes false blank) x y) (sym (s₁ .0)) (sym (s₂ .0))
     (twins (begun address (length bytes))
-    (written-agree blank (l₁ .«data») (l₂ .«data») bytes false (good-fits bytes (s₁ .1)) (own-start false 0 0 l₁ l₂ (λ t. refl) refl m₁ m₂)))
+    (written-agree blank (l₁ .«data») (l₂ .«data») bytes false (good-255 bytes (s₁ .1)) (own-start false 0 0 l₁ l₂ (λ t. refl) refl m₁ m₂)))
 start-twins (masterWriteRead address bytes n) w v u w′ v′ u′ l₁ l₂ t a₁ a₂ p₁ p₂ m₁ m₂ =
     let s₁ = start-accepted (starting w) (goodLength bytes) w _ l₁ _ a₁ in
     let s₂ = start-accepted (starting w′) (goodLength bytes) w′ _ l₂ _ a₂ in
     subst₂ (λ (x y : Link). Twins (written bytes false blank) x y) (sym (s₁ .0)) (sym (s₂ .0))
     (twins (begun address (length bytes))
-    (written-agree blank (l₁ .«data») (l₂ .«data») bytes false (good-fits bytes (s₁ .1)) (own-start false n n l₁ l₂ (λ t. refl) refl m₁ m₂)))
+    (written-agree blank (l₁ .«data») (l₂ .«data») bytes false (good-255 bytes (s₁ .1)) (own-start false n n l₁ l₂ (λ t. refl) refl m₁ m₂)))
 start-twins (masterRead address n) w v u w′ v′ u′ l₁ l₂ t a₁ a₂ p₁ p₂ m₁ m₂ =
     let s₁ = start-accepted (starting w) true w _ l₁ _ a₁ in
     let s₂ = start-accepted (starting w′) true w′ _ l₂ _ a₂ in
