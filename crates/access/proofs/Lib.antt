@@ -1,2 +1,3 @@
 pub mod Over
 pub mod Promises
+pub mod Stored

@@ -1,8 +1,5 @@
 // The words that a call reads, and the log of its accesses: two places an access, the register's number and the word.
-ghost use Prim.Native.Nat.{ℕ};
 ghost use mathlib.Core.Path.{_≡_};
-ghost use mathlib.Core.Bool.{true};
-ghost use lib.Dec.{leb};
 ghost use lib.ListN.{length, getD};
 ghost use Rattle.access.specs.Access.{Logged, Reported, settle};
 ghost use Rattle.answers.specs.Answers.{said};
@@ -53,17 +50,10 @@ pub fn settle(
     if words.len() < reads {
         return refused(Answer::OutOfWords);
     }
-    accessed(answer, reads, entries, log)
-}
-
-// The same where all the words are there.
-pub fn accessed(answer: Answer, taken: usize, entries: &[u32], log: &mut [u32]) -> Report
-    ensures { λ r. ⌜ ((words : ℕ) → leb taken words ≡ true → Reported (settle (said answer) taken (now (entries .entry)) words (length (now (log .entry)))) (now (log .entry)) r (now (log .exit))) ⌝ }
-{
     if write_log(log, entries) {
         return Report {
             answer,
-            taken,
+            taken: reads,
             logged: entries.len(),
         };
     }

@@ -8,6 +8,7 @@ use parked::Kind;
 use parked::Parked;
 use parked::Phase;
 use runs::Ran;
+use slices::first_left;
 use stretches::Turn;
 use turns::run::answered;
 use turns::run::one_by_one;
@@ -67,11 +68,8 @@ pub fn resume(
 ) -> Ran
     ensures { λ r. ⌜ Whole (resumed (now (send .entry)) (room (now (log .entry))) call taken (now (receive .entry)) (now (words .entry))) (now (log .entry)) r (now (log .exit)) (now (receive .exit)) ⌝ }
 {
-    if taken < words.len() {
-        return run(call, send, receive, &words[taken..], log);
-    }
-    let none = [0u32; 0];
-    run(call, send, receive, &none, log)
+    let first = first_left(taken, words.len());
+    run(call, send, receive, &words[first..], log)
 }
 
 // Begins a call and runs it. A slice of 0 or over 255 bytes, or one that the kind does not have, is answered (6) before any access, and

@@ -10,22 +10,21 @@ ghost use Rattle.ending.specs.Outcome.{outcome, Matches};
 ghost use Rattle.ending.specs.Arms.{Arm};
 ghost use Rattle.checks.specs.Rest.{rest};
 use access::Report;
-use access::refused;
 use access::word_at;
-use answers::Answer;
+use errors::impossible_link;
 use flags::Flag;
 use flags::Isr;
-use openings::impossible;
+use limits::impossible;
 use steps::addressed::on_addr;
 use steps::frame::on_tc;
 use steps::frame::on_tcr;
 use steps::on_arlo;
 use steps::on_berr;
 use steps::on_nackf;
+use steps::on_nothing;
 use steps::received::on_rxne;
-use transfer::on_nothing;
-use transfer::on_stopf;
-use transfer::on_txis;
+use steps::sent::on_stopf;
+use steps::sent::on_txis;
 
 pub mod watchdog;
 
@@ -47,14 +46,15 @@ pub fn check_fields(
     let i = *index;
     let n = *length;
     if impossible(i, n, *length_write_read, *watchdog) {
-        return refused(Answer::ImpossibleLink);
+        return impossible_link();
     }
     let flag = Isr::taken_as(word_at(words, 0));
+    // Each arm returns by itself: its proof is shorter than that of a value in which all arms meet.
     match flag {
-        Flag::Txis => on_txis(index, n as u8, data, words, log),
-        Flag::Rxne => on_rxne(index, n as u8, data, words, log),
-        Flag::Stopf => on_stopf(*address, watchdog, i, errors, words, log),
-        Flag::Tc => on_tc(
+        Flag::Txis => return on_txis(index, n as u8, data, words, log),
+        Flag::Rxne => return on_rxne(index, n as u8, data, words, log),
+        Flag::Stopf => return on_stopf(*address, watchdog, i, errors, words, log),
+        Flag::Tc => return on_tc(
             *address,
             index,
             length,
@@ -63,8 +63,8 @@ pub fn check_fields(
             words,
             log,
         ),
-        Flag::Addr => on_addr(address, watchdog, index, length, words, log),
-        Flag::Berr | Flag::Arlo | Flag::Nackf | Flag::Tcr | Flag::Nothing => on_rest(
+        Flag::Addr => return on_addr(address, watchdog, index, length, words, log),
+        Flag::Berr | Flag::Arlo | Flag::Nackf | Flag::Tcr | Flag::Nothing => return on_rest(
             flag,
             errors,
             words,
@@ -78,10 +78,10 @@ fn on_rest(flag: Flag, errors: &mut u32, words: &[u32], log: &mut [u32]) -> Repo
     ensures { λ r. ⌜ ((a w i n h : ℕ) (d : List ℕ) → Arm (rest flag) (now (words .entry)) (linkAt a w i n (now (errors .entry)) h d) (linkAt a w i n (now (errors .exit)) h d) r (now (log .entry)) (now (log .exit))) ⌝ }
 {
     match flag {
-        Flag::Berr => on_berr(errors, words, log),
-        Flag::Arlo => on_arlo(words, log),
-        Flag::Nackf => on_nackf(words, log),
-        Flag::Tcr => on_tcr(words, log),
-        _ => on_nothing(words, log),
+        Flag::Berr => return on_berr(errors, words, log),
+        Flag::Arlo => return on_arlo(words, log),
+        Flag::Nackf => return on_nackf(words, log),
+        Flag::Tcr => return on_tcr(words, log),
+        _ => return on_nothing(words, log),
     }
 }

@@ -11,11 +11,13 @@ ghost use Rattle.ending.specs.Link.{linkAt};
 ghost use Rattle.ending.specs.Call.{executeWatchdog};
 ghost use Rattle.ending.specs.Outcome.{outcome, Matches};
 use access::Report;
-use access::accessed;
 use access::refused;
+use access::settle;
 use answers::Answer;
+use errors::impossible_link;
 use errors::one_more;
-use openings::impossible;
+use errors::out_of_words;
+use limits::impossible;
 use registers::cr1::Cr1;
 
 // `execute_watchdog` over a link's fields, lent one by one.
@@ -33,10 +35,10 @@ pub fn watchdog_fields(
 {
     let left = *watchdog;
     if impossible(index, length, length_write_read, left) {
-        return refused(Answer::ImpossibleLink);
+        return impossible_link();
     }
     if left == 0 {
-        return refused(Answer::Done);
+        return nothing_done();
     }
     if left == 1 {
         let report = restarted(words, log);
@@ -48,6 +50,13 @@ pub fn watchdog_fields(
         return report;
     }
     *watchdog = left - 1;
+    nothing_done()
+}
+
+// No access is made.
+fn nothing_done() -> Report
+    ensures { λ r. ⌜ r ≡ record { answer = Answer.Done; taken = 0; logged = 0 } ⌝ }
+{
     refused(Answer::Done)
 }
 
@@ -56,7 +65,7 @@ fn restarted(words: &[u32], log: &mut [u32]) -> Report
     ensures { λ r. ⌜ Reported (settle (says 0 []) 3 (0 ∷ getD (now (words .entry)) 0 0 ∷ 0x100 ∷ powered (getD (now (words .entry)) 0 0) false ∷ 0 ∷ getD (now (words .entry)) 1 0 ∷ 0 ∷ getD (now (words .entry)) 2 0 ∷ 0x100 ∷ powered (getD (now (words .entry)) 2 0) true ∷ []) (size (now (words .entry))) (size (now (log .entry)))) (now (log .entry)) r (now (log .exit)) ⌝ }
 {
     if words.len() < 3 {
-        return refused(Answer::OutOfWords);
+        return out_of_words();
     }
     let cr1 = words[0];
     let waited = words[1];
@@ -73,5 +82,5 @@ fn restarted(words: &[u32], log: &mut [u32]) -> Report
         Cr1::WRITE,
         Cr1::PE.switch(again, true),
     ];
-    accessed(Answer::Done, 3, &entries, log)
+    settle(Answer::Done, 3, &entries, words, log)
 }

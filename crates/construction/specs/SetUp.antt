@@ -5,7 +5,7 @@ use mathlib.Core.List.{List, [], _∷_, _++_}
 use lib.Dec.{ltb}
 use lib.ListN.{length, getD}
 use Rattle.config.specs.declared.Config.{Config}
-use Rattle.construction.specs.declared.Basics.{Basics}
+use Rattle.construction.specs.declared.Written.{Written}
 use Rattle.layout.specs.Layout.{Register, CR1, OAR1, OAR2, TIMINGR}
 use Rattle.layout.specs.Words.{powered, configured, byteControl, ownSecond}
 use Rattle.access.specs.Access.{Access, read, write, Settled, refusal, settled}
@@ -40,9 +40,13 @@ withTiming (timing ∷ _) c oar1 words places = settled (says 0 []) (setUpAccess
 unfoldable pub setUp : Config → ℕ → ℕ → List ℕ → ℕ → Settled
 setUp c clock oar1 words places = withTiming (timingBits c clock .values) c oar1 words places
 
--- the same as numbers of the log, piece by piece
-abbrev pub addressEntries : ℕ → ℕ → ℕ → List ℕ → List ℕ
-addressEntries number word cr1 rest = number ∷ word ∷ 0x00 ∷ cr1 ∷ 0x100 ∷ byteControl cr1 true ∷ rest
+-- how many own addresses there are, and what is written for the first of them
+abbrev pub own : Bool → Bool → ℕ
+own false false = 0
+own false true = 1
+own true false = 1
+own true true = 2
 
-abbrev pub basicEntries : Basics → List ℕ → List ℕ
-basicEntries b rest = 0x00 ∷ b .off ∷ 0x100 ∷ b .disabled ∷ 0x110 ∷ b .timing ∷ 0x00 ∷ b .on ∷ 0x100 ∷ b .configured ∷ rest
+abbrev pub firstWritten : Bool → ℕ → ℕ → Written
+firstWritten true oar1 oar2 = record { number = 0x108; word = oar1 }
+firstWritten false oar1 oar2 = record { number = 0x10C; word = oar2 }

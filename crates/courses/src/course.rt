@@ -15,11 +15,11 @@ use flags::Isr;
 use parked::Kind;
 use parked::Parked;
 use parked::Phase;
+use polls::put_at;
 use registers::cr2::Cr2;
 use stretches::Moved;
 use stretches::Progress;
 use stretches::Turn;
-use stretches::put_at;
 use stretches::stretch::receive_bytes;
 use stretches::stretch::send_bytes;
 

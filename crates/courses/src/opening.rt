@@ -7,7 +7,7 @@ ghost use lib.ListN.{length};
 ghost use Rattle.layout.specs.Layout.{CR2, ISR, RXDR, offset};
 ghost use Rattle.layout.specs.Words.{started, flushed, sadd8};
 ghost use Rattle.phases.specs.Kinds.{incoming};
-ghost use Rattle.stretches.specs.Stretches.{Put};
+ghost use Rattle.polls.specs.Polls.{Put};
 ghost use Rattle.courses.specs.Courses.{Opens};
 use crate::Opened;
 use flags::Isr;
@@ -15,10 +15,10 @@ use parked::Kind;
 use parked::Opening;
 use parked::Parked;
 use parked::Phase;
+use polls::put_at;
 use registers::cr2::Cr2;
 use registers::data::Rxdr;
 use stretches::Moved;
-use stretches::put_at;
 
 // START is clear, and a `modify` of CR2.
 fn open_write(address: u8, send: usize, first: u32, cr2: u32, log: &mut [u32]) -> bool

@@ -8,8 +8,9 @@ use lib.ListN.{length, getD}
 use lib.Dec.{T, ltb, leb}
 use borrow.Author.Tests.{ltb-false}
 use Rattle.access.specs.Access.{Access, reads, entries}
+use Rattle.limits.specs.Limits.{impossibleAt}
 use Rattle.ending.specs.Link.{Link}
-use Rattle.ending.specs.Link.{linkOf, impossibleAt, impossible}
+use Rattle.ending.specs.Link.{linkOf, impossible}
 use Rattle.ending.specs.Call.{Call, Step}
 use Rattle.ending.specs.Plan.{Plan}
 use Rattle.ending.specs.Outcome.{Outcome, settle, planAt, outcome}

@@ -12,8 +12,9 @@ use Rattle.flags.specs.declared.Flag.{Flag}
 use Rattle.answers.specs.declared.Answer.{Answer}
 use Rattle.answers.specs.Answers.{Said, said}
 use Rattle.flags.specs.Flags.{takenAs}
+use Rattle.limits.specs.Limits.{impossibleAt}
 use Rattle.ending.specs.Link.{Link}
-use Rattle.ending.specs.Link.{impossible, impossibleAt}
+use Rattle.ending.specs.Link.{impossible}
 use Rattle.ending.specs.Call.{Call, Step, checkIsrFlags}
 use Rattle.ending.specs.Plan.{Plan, goodLength}
 use Rattle.ending.specs.Outcome.{planAt, settled, outcome, refusal12, countShown, Matches}

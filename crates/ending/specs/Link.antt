@@ -1,9 +1,10 @@
 -- The link of the non-blocking driver, and what the calls do to it.
 use Prim.Native.Nat.{ℕ, _+_, _-_}
-use mathlib.Core.Bool.{Bool, cond, _||_}
+use mathlib.Core.Bool.{Bool, cond}
 use mathlib.Core.List.{List}
 use lib.Dec.{ltb}
 use lib.ListN.{replicate}
+use Rattle.limits.specs.Limits.{impossibleAt}
 
 -- what a link holds between calls: for a `master_write_read` the length of the read that follows, and the bytes
 pub record Link : Type 0 where
@@ -68,9 +69,6 @@ addressed address c = record { address = address; watchdog = 10; index = c .inde
 unfoldable pub oneMore : ℕ → ℕ
 oneMore errors = cond (ltb errors 4294967295) (errors + 1) errors
 
--- answer 12: an index above the length, a length above 255, a watchdog above 10
-abbrev pub impossibleAt : ℕ → ℕ → ℕ → ℕ → Bool
-impossibleAt index length second watchdog = ltb length index || ltb 255 length || ltb 255 second || ltb 10 watchdog
-
+-- answer 12
 unfoldable pub impossible : Link → Bool
 impossible l = impossibleAt (l .index) (l .length) (l .«length_write_read») (l .watchdog)

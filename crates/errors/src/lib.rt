@@ -1,4 +1,4 @@
-// The error count of a link.
+// The error count of a link, and the refusals that many calls share.
 ghost use mathlib.Core.Path.{_≡_};
 ghost use Rattle.ending.specs.Link.{oneMore};
 use access::Report;
@@ -20,4 +20,25 @@ pub fn told(errors: u32) -> Report
     ensures { λ r. ⌜ r ≡ record { answer = Answer.Errors errors; taken = 0; logged = 0 } ⌝ }
 {
     refused(Answer::Errors(errors))
+}
+
+// Too few words: answer 9. A function without an argument: an answer handed on makes a caller's proof longer.
+pub fn out_of_words() -> Report
+    ensures { λ r. ⌜ r ≡ record { answer = Answer.OutOfWords; taken = 0; logged = 0 } ⌝ }
+{
+    refused(Answer::OutOfWords)
+}
+
+// No room in the log: answer 10.
+pub fn log_full() -> Report
+    ensures { λ r. ⌜ r ≡ record { answer = Answer.LogFull; taken = 0; logged = 0 } ⌝ }
+{
+    refused(Answer::LogFull)
+}
+
+// A link that no run of calls leaves: answer 12.
+pub fn impossible_link() -> Report
+    ensures { λ r. ⌜ r ≡ record { answer = Answer.ImpossibleLink; taken = 0; logged = 0 } ⌝ }
+{
+    refused(Answer::ImpossibleLink)
 }

@@ -4,7 +4,7 @@
 --     calls-on             the call of the callee
 --     calls-put            the call of `flat::out::put`
 --     fins                 the end, once the locals are freed
---     relays               both calls, over the frame of the locals (`Cells.antt` of the crate `lent`)
+--     puts                 the second call and the end, over the frame of the locals; `relays`: both calls (`Cells.antt` of the crate `nonblocking`)
 --     relay-walk           the whole walk of a function that lends its first parameter on
 --     relay-closes         a walk that knows of the two callees that they meet their contracts becomes the function's statement
 use mathlib.Core.List.{_++_}
@@ -35,8 +35,8 @@ use denote.Triple.Table.{entered, cited}
 use Rattle.nonblocking.proofs.Lending.{_≡_, refl, sym, subst, ℕ, Ty, List, [], _∷_, URA, Val, vptr, hasTy, WT, Is, emp, via, fst∗, id⊢, named, SProp, ent, sep, Fml, Lft, Share, ftrue, flft, Place, Fn, Code, Memory, Heap, Atoms, sem, Calls, Loops, Frame, WpFn, Closed, FmC, fmOf, Routine, Env, Fun, fact}
 use Rattle.nonblocking.proofs.Lending.{Given, Item, ‵, raw, _⊛_, some, later, _$_, _∵_, qed, move, use1, split, join, pick, fsplit, fjoin, drop, frame, await, done, lands, Post, Seq, Step, step, addr, from, hop, stop, peeks, shows, calls-at, owned, heard, nothing}
 use Rattle.nonblocking.proofs.Lending.{owns, RefT, MutRef, tripleOf, Contract, Triple, onEntry, lasts, Ended, Clauses, closing, givenOf, GhostRules, Running, tables, Name as Symbol}
-use Rattle.lent.proofs.Cells.{cells, frame-of, Blocks, rest-fit, stored, copies, All-have, Has, Free, again, lent-again, Lendable, has-put, put-in, starts, lends-again, reads-it, sets, hands, lands-in, returns-it, frees-all}
-use Rattle.lent.proofs.Thin.{enters}
+use Rattle.nonblocking.proofs.Cells.{cells, frame-of, Blocks, rest-fit, stored, copies, All-have, Has, Free, again, lent-again, Lendable, has-put, put-in, starts, lends-again, reads-it, sets, hands, lands-in, returns-it, frees-all}
+use Rattle.nonblocking.proofs.Thin.{enters}
 use Rattle.access.specs.declared.Report.{Report}
 use Rattle.access.proofs.Report as P
 use Rattle.access.proofs.Report.Laws as P′
@@ -106,9 +106,9 @@ module _ {M : Type 1} (𝓤 : URA M) (H : Heap 𝓤) (A : Atoms 𝓤) where
   stars-whole [] F = comm∗ 𝓤 (emp 𝓤) (sem 𝓤 H A F)
   stars-whole (G ∷ Fs) F = returns-to (sem 𝓤 H A G) (all Fs) (sem 𝓤 H A F) (all (Fs ++ (F ∷ []))) (stars-whole Fs F)
 
-  -- what the callee gives back: the tokens, its report, what is said of the parameters at exit, and what is ensured
-  abbrev pub Answered : (n : ℕ) (κs : Lfts n) (qs : Shares n) {Z : Type 0} → (Z → List Fml) → (Report → Z → SProp 𝓤) → Val → Item 𝓤
-  Answered n κs qs {Z} Ls Q w = later (some (λ (r : Report). (raw (toks 𝓤 A n κs qs) ⊛ ‵ (P.the-row .own r (w ∷ []))) ⊛ some (λ (zs : Z). ‵ (stars (Ls zs)) ⊛ raw (Q r zs))))
+  -- what the callee gives back: the tokens, its result, what is said of the parameters at exit, and what is ensured
+  abbrev pub Answered : (R : RattleType) (n : ℕ) (κs : Lfts n) (qs : Shares n) {Z : Type 0} → (Z → List Fml) → (R .Denot → Z → SProp 𝓤) → Val → Item 𝓤
+  Answered R n κs qs {Z} Ls Q w = later (some (λ (r : R .Denot). (raw (toks 𝓤 A n κs qs) ⊛ ‵ (R .own r (w ∷ []))) ⊛ some (λ (zs : Z). ‵ (stars (Ls zs)) ⊛ raw (Q r zs))))
 
   module _ (mem : Memory → SProp 𝓤) (run : Routine → Fun 𝓤) where
     abbrev pub Put : Contract 𝓤
@@ -130,24 +130,20 @@ out-own κ out = MutRef (named 0) κ Numbers .own out (vptr (out .ptr .0) (out .
 abbrev pub out-last : RefT (List ℕ) → List ℕ → Fml
 out-last out z = fres (out .name) (Numbers .coded .code z)
 
--- a value may be stored where a report may
-abbrev Fits : Val → Type 0
-Fits w = T (hasTy P′.mir w) × WT w
-
 module _ {M : Type 1} {𝓤 : URA M} {H : Heap 𝓤} {A : Atoms 𝓤} {K : Type 0} {W : Given 𝓤 H A} {Γ : List (Item 𝓤)} {E : Frame 𝓤 H} where
-  pub calls-on : K → {C : Calls 𝓤 H} {Λ : Loops 𝓤 H} → FmC 𝓤 H (W .laws) C → {f : Symbol} {xs : List Operand} {d : Place} {rest : Code} {p : Post 𝓤 H} (n : ℕ) (κs : Lfts (suc n)) (qs : Shares (suc n)) (Fs : List Fml) (F : Fml)
+  pub calls-on : K → {C : Calls 𝓤 H} {Λ : Loops 𝓤 H} → FmC 𝓤 H (W .laws) C → {f : Symbol} {xs : List Operand} {d : Place} {rest : Code} {p : Post 𝓤 H} (R : RattleType) (n : ℕ) (κs : Lfts (suc n)) (qs : Shares (suc n)) (Fs : List Fml) (F : Fml)
       → (e : Contract 𝓤) → Triple 𝓤 (C f) e → (to : e .Ghost) → ent 𝓤 (sep 𝓤 (Fronts 𝓤 H A n κs qs) (all 𝓤 H A Fs)) (e .pre to)
-      → {Z : Type 0} (Ls : Z → List Fml) (Q : Report → Z → SProp 𝓤) → ((w : Val) → ent 𝓤 (e .post to w) (mean 𝓤 H A (Answered 𝓤 H A n (front n κs) (front-share n qs) Ls Q w)))
+      → {Z : Type 0} (Ls : Z → List Fml) (Q : R .Denot → Z → SProp 𝓤) → ((w : Val) → ent 𝓤 (e .post to w) (mean 𝓤 H A (Answered 𝓤 H A R n (front n κs) (front-share n qs) Ls Q w)))
       → Opds K W (raw (e .pre to) ∷ ‵ (flft (last n κs) (last-share n qs)) ∷ ‵ F ∷ Γ) E xs (e .args to)
-      → ((r : Report) (w : Val) (zs : Z) → Fits w → Seq K W (‵ (P.the-row .own r (w ∷ [])) ∷ ‵ (flft (last n κs) (last-share n qs)) ∷ ‵ F ∷ raw (Fronts 𝓤 H A n κs qs) ∷ ‵ (stars (Ls zs)) ∷ raw (Q r zs) ∷ Γ) (lands C Λ E d w rest p))
+      → ((r : R .Denot) (w : Val) (zs : Z) → Seq K W (‵ (R .own r (w ∷ [])) ∷ ‵ (flft (last n κs) (last-share n qs)) ∷ ‵ F ∷ raw (Fronts 𝓤 H A n κs qs) ∷ ‵ (stars (Ls zs)) ∷ raw (Q r zs) ∷ Γ) (lands C Λ E d w rest p))
       → Seq K W (raw (toks 𝓤 A (suc n) κs qs) ∷ ‵ (stars (Fs ++ (F ∷ []))) ∷ Γ) (runs C Λ E (seq (call f xs d) rest) p)
-  calls-on t fm n κs qs Fs F e met to goes-in Ls Q comes-out operands k =
+  calls-on t fm R n κs qs Fs F e met to goes-in Ls Q comes-out operands k =
       use1 W (raw (Fronts 𝓤 H A n κs qs) ⊛ ‵ (flft (last n κs) (last-share n qs))) (toks-apart 𝓤 H A n κs qs) $ split t $ move t (2 ∷ []) $ use1 W (‵ (stars Fs) ⊛ ‵ F) (stars-apart 𝓤 H A Fs F) $ split t $
       -- [what the callee takes; what `out` owns; the callee's tokens; the last token]
       move t (2 ∷ 0 ∷ 3 ∷ 1 ∷ []) $ use2 W (raw (e .pre to)) goes-in $ calls-at t fm e met to operands (λ w.
-      use1 W (Answered 𝓤 H A n (front n κs) (front-share n qs) Ls Q w) (comes-out w) $ await t tt $ pick t (λ r. split t $ move t (1 ∷ []) $ pick t (λ zs. split t $ move t (2 ∷ []) $ split t $
-      -- [the tokens; the report; the last values; what is ensured; the last token; `out`]
-      move t (1 ∷ 4 ∷ 5 ∷ 0 ∷ 2 ∷ 3 ∷ []) $ peeks t P.the-row (Is P.the-row) (shows 𝓤 H A P.the-row) r (w ∷ []) (λ is. k r w zs (LL.lawful P.the-type P′.the-laws 𝓤 H A W .typed r _ is .0)))))
+      use1 W (Answered 𝓤 H A R n (front n κs) (front-share n qs) Ls Q w) (comes-out w) $ await t tt $ pick t (λ r. split t $ move t (1 ∷ []) $ pick t (λ zs. split t $ move t (2 ∷ []) $ split t $
+      -- [the tokens; the result; the last values; what is ensured; the last token; `out`]
+      move t (1 ∷ 4 ∷ 5 ∷ 0 ∷ 2 ∷ 3 ∷ []) $ k r w zs)))
 
   pub calls-put : K → {C : Calls 𝓤 H} {Λ : Loops 𝓤 H} → FmC 𝓤 H (W .laws) C → {n : Symbol} {xs : List Operand} {d : Place} {rest : Code} {p : Post 𝓤 H} (mem : Memory → SProp 𝓤) (run : Routine → Fun 𝓤) → Triple 𝓤 (C n) (Put 𝓤 H A mem run)
       → (κ : Lft) (q : Share) (r : Report) (w : Val) (out : RefT (List ℕ))
@@ -207,14 +203,18 @@ pub record Places : Type 0 where
   pub out : ℕ
   pub nothing : ℕ
 
--- the callee is called, and the report and `out` are handed on
+-- the report and `out` are handed on
+abbrev pub puts-code : Symbol → Ty → Places → Code
+puts-code put-f σ m = seq (assign (place (m .lent) []) (addrOf (place (m .out) (deref σ ∷ [])))) (seq (call put-f (copies (m .report ∷ m .lent ∷ [])) (place (m .nothing) [])) (seq (assign (place 0 []) (rvOpd opdUnit)) return))
+
+-- the callee is called before
 abbrev pub relay-code : Symbol → List ℕ → Symbol → Ty → Places → Code
-relay-code f ops put-f σ m = seq (call f (copies ops) (place (m .report) [])) (seq (assign (place (m .lent) []) (addrOf (place (m .out) (deref σ ∷ [])))) (seq (call put-f (copies (m .report ∷ m .lent ∷ [])) (place (m .nothing) [])) (seq (assign (place 0 []) (rvOpd opdUnit)) return)))
+relay-code f ops put-f σ m = seq (call f (copies ops) (place (m .report) [])) (puts-code put-f σ m)
 
 abbrev out-ptr : RefT (List ℕ) → Val
 out-ptr out = vptr (out .ptr .0) (out .ptr .1)
 
-abbrev with-report : List (Option Val) → Places → Val → List (Option Val)
+abbrev pub with-report : List (Option Val) → Places → Val → List (Option Val)
 with-report xs m w = put-in xs (m .report) w
 
 abbrev with-out : List (Option Val) → Places → RefT (List ℕ) → Val → List (Option Val)
@@ -240,26 +240,36 @@ module _ {M : Type 1} {𝓤 : URA M} {H : Heap 𝓤} {A : Atoms 𝓤} {K : Type 
   lends-log t none xs ok = step (λ s. s)
   lends-log t (held l) xs ok = lends-again t xs (l .from-local) (l .to-local) (tyInt w32) (l .lifetime) mut (tyInt w32) (l .ptr) (l .len) ok
 
+  -- the report and `out` are handed on and the function ends, with Δ beside the locals
+  pub puts : K → {Δ : List (Item 𝓤)} (C : Calls 𝓤 H) (Λ : Loops 𝓤 H) → FmC 𝓤 H (W .laws) C → (E : Frame 𝓤 H) (xs : List (Option Val)) (n : ℕ) (κs : Lfts (suc n)) (qs : Shares (suc n)) (out : RefT (List ℕ)) (Gs : List Fml) (S : SProp 𝓤)
+      → (mem : Memory → SProp 𝓤) (run : Routine → Fun 𝓤) (put-s : Symbol) → Triple 𝓤 (C put-s) (Put 𝓤 H A mem run)
+      → (ops : List ℕ) (vs : List Val) (σ : Ty) (m : Places) → Relayable 𝓤 H E xs ops vs m out → (Kf : Val → SProp 𝓤) (r : Report) (w : Val)
+      → ((z : List ℕ) → z ≡ six r → Seq K W (‵ (flft (last n κs) (last-share n qs)) ∷ ‵ (out-last out z) ∷ raw (Fronts 𝓤 H A n κs qs) ∷ ‵ (stars Gs) ∷ raw S ∷ Δ) (prop (Kf vunit)))
+      → Seq K W (‵ (P.the-row .own r (w ∷ [])) ∷ ‵ (flft (last n κs) (last-share n qs)) ∷ ‵ (out-own (last n κs) out) ∷ raw (Fronts 𝓤 H A n κs qs) ∷ ‵ (stars Gs) ∷ raw S ∷ ‵ (cells 𝓤 H E (with-report xs m w)) ∷ Δ) (runs C Λ E (puts-code put-s σ m) (atRet E Kf))
+  puts t {Δ} C Λ fm E xs n κs qs out Gs S mem run put-s put-met ops vs σ m ok Kf r w k =
+      let xs₁ = with-report xs m w in
+      let xs₂ = with-out xs m out w in
+      sets t xs₁ 6 refl (ok .lent-room w) (ok .lent-fits) (addr t (from t (hop t (reads-it t E xs₁ 6 refl (m .out) (out-ptr out) (ok .out-there w)) (stop t)))) $
+      calls-put {Γ = raw (Fronts 𝓤 H A n κs qs) ∷ ‵ (stars Gs) ∷ raw S ∷ ‵ (cells 𝓤 H E xs₂) ∷ Δ} t fm mem run put-met (last n κs) (last-share n qs) r w out (hands t xs₂ 4 refl (m .report ∷ m .lent ∷ []) (w ∷ out-ptr out ∷ []) (ok .both w)) (λ v z same fits-unit.
+      let xs₃ = put-in xs₂ (m .nothing) v in
+      lands-in t xs₂ 5 refl (ok .nothing-room w) (subst (λ (τ : Ty). T (hasTy τ v) × WT v) (sym (ok .nothing-type)) fits-unit) $
+      sets t xs₃ 5 refl (ok .result-room w v) (subst (λ (τ : Ty). T (hasTy τ vunit) × WT vunit) (sym (ok .result-type)) (tt, tt)) (of-opd t (unit-lit t)) $
+      returns-it t (put-in xs₃ 0 vunit) 5 refl vunit (has-put 𝓤 H E xs₃ 0 none vunit (ok .result-room w v)) $ move t (5 ∷ []) $ frees-all t E (put-in xs₃ 0 vunit) $ k z same)
+
   -- the second half, with Δ beside the locals
   pub relays : K → {Δ : List (Item 𝓤)} (C : Calls 𝓤 H) (Λ : Loops 𝓤 H) → FmC 𝓤 H (W .laws) C → (E : Frame 𝓤 H) (xs : List (Option Val)) (n : ℕ) (κs : Lfts (suc n)) (qs : Shares (suc n)) (Fs : List Fml) (out : RefT (List ℕ))
       → (s : Symbol) (e : Contract 𝓤) → Triple 𝓤 (C s) e → (to : e .Ghost) → ent 𝓤 (sep 𝓤 (Fronts 𝓤 H A n κs qs) (all 𝓤 H A Fs)) (e .pre to)
-      → {Z : Type 0} (Ls : Z → List Fml) (Q : Report → Z → SProp 𝓤) → ((w : Val) → ent 𝓤 (e .post to w) (mean 𝓤 H A (Answered 𝓤 H A n (front n κs) (front-share n qs) Ls Q w)))
+      → {Z : Type 0} (Ls : Z → List Fml) (Q : Report → Z → SProp 𝓤) → ((w : Val) → ent 𝓤 (e .post to w) (mean 𝓤 H A (Answered 𝓤 H A P.the-row n (front n κs) (front-share n qs) Ls Q w)))
       → (mem : Memory → SProp 𝓤) (run : Routine → Fun 𝓤) (put-s : Symbol) → Triple 𝓤 (C put-s) (Put 𝓤 H A mem run)
       → (ops : List ℕ) (σ : Ty) (m : Places) → Relayable 𝓤 H E xs ops (e .args to) m out → (Kf : Val → SProp 𝓤)
       → ((r : Report) (zs : Z) (z : List ℕ) → z ≡ six r → Seq K W (‵ (flft (last n κs) (last-share n qs)) ∷ ‵ (out-last out z) ∷ raw (Fronts 𝓤 H A n κs qs) ∷ ‵ (stars (Ls zs)) ∷ raw (Q r zs) ∷ Δ) (prop (Kf vunit)))
       → Seq K W (raw (toks 𝓤 A (suc n) κs qs) ∷ ‵ (stars (Fs ++ (out-own (last n κs) out ∷ []))) ∷ ‵ (cells 𝓤 H E xs) ∷ Δ) (runs C Λ E (relay-code s ops put-s σ m) (atRet E Kf))
-  relays t {Δ} C Λ fm E xs n κs qs Fs out s e met to goes-in Ls Q comes-out mem run put-s put-met ops σ m ok Kf k =
-      calls-on t fm n κs qs Fs (out-own (last n κs) out) e met to goes-in Ls Q comes-out (hands t xs 3 refl ops (e .args to) (ok .operands)) (λ r w zs fits.
-      let xs₁ = with-report xs m w in
-      let xs₂ = with-out xs m out w in
+  relays t C Λ fm E xs n κs qs Fs out s e met to goes-in Ls Q comes-out mem run put-s put-met ops σ m ok Kf k =
+      calls-on t fm P.the-row n κs qs Fs (out-own (last n κs) out) e met to goes-in Ls Q comes-out (hands t xs 3 refl ops (e .args to) (ok .operands)) (λ r w zs.
       -- [the report; the last token; `out`; the other tokens; the last values; what is ensured; the locals]
-      lands-in t xs 6 refl (ok .report-room) (subst (λ (τ : Ty). T (hasTy τ w) × WT w) (sym (ok .report-type)) fits) $
-      sets t xs₁ 6 refl (ok .lent-room w) (ok .lent-fits) (addr t (from t (hop t (reads-it t E xs₁ 6 refl (m .out) (out-ptr out) (ok .out-there w)) (stop t)))) $
-      calls-put {Γ = raw (Fronts 𝓤 H A n κs qs) ∷ ‵ (stars (Ls zs)) ∷ raw (Q r zs) ∷ ‵ (cells 𝓤 H E (with-out xs m out w)) ∷ Δ} t fm mem run put-met (last n κs) (last-share n qs) r w out (hands t xs₂ 4 refl (m .report ∷ m .lent ∷ []) (w ∷ out-ptr out ∷ []) (ok .both w)) (λ v z same fits-unit.
-      let xs₃ = put-in xs₂ (m .nothing) v in
-      lands-in t xs₂ 5 refl (ok .nothing-room w) (subst (λ (τ : Ty). T (hasTy τ v) × WT v) (sym (ok .nothing-type)) fits-unit) $
-      sets t xs₃ 5 refl (ok .result-room w v) (subst (λ (τ : Ty). T (hasTy τ vunit) × WT vunit) (sym (ok .result-type)) (tt, tt)) (of-opd t (unit-lit t)) $
-      returns-it t (put-in xs₃ 0 vunit) 5 refl vunit (has-put 𝓤 H E xs₃ 0 none vunit (ok .result-room w v)) $ move t (5 ∷ []) $ frees-all t E (put-in xs₃ 0 vunit) $ k r zs z same))
+      peeks t P.the-row (Is P.the-row) (shows 𝓤 H A P.the-row) r (w ∷ []) (λ is.
+      lands-in t xs 6 refl (ok .report-room) (subst (λ (τ : Ty). T (hasTy τ w) × WT w) (sym (ok .report-type)) (LL.lawful P.the-type P′.the-laws 𝓤 H A W .typed r _ is .0)) $
+      puts t C Λ fm E xs n κs qs out (Ls zs) (Q r zs) mem run put-s put-met ops (e .args to) σ m ok Kf r w (k r zs)))
 
 -- what the first half asks of the frame of a function whose first parameter is handed on as it is: the reference is lent on by local k
 pub record Handable {M : Type 1} (𝓤 : URA M) (H : Heap 𝓤) (E : Frame 𝓤 H) (vs : List Val) (b o k : ℕ) (log : Option Log) : Type 0 where
@@ -277,7 +287,7 @@ hand-code k σ log rest = seq (assign (place k []) (addrOf (place 1 (deref σ �
 module _ {M : Type 1} {𝓤 : URA M} {H : Heap 𝓤} {A : Atoms 𝓤} {K : Type 0} {W : Given 𝓤 H A} where
   pub relay-walk : K → (C : Calls 𝓤 H) (Λ : Loops 𝓤 H) → FmC 𝓤 H (W .laws) C → (n : ℕ) (κs : Lfts (suc n)) (qs : Shares (suc n)) (Fs : List Fml) (out : RefT (List ℕ))
       → (s : Symbol) (e : Contract 𝓤) → Triple 𝓤 (C s) e → (to : e .Ghost) → ent 𝓤 (sep 𝓤 (Fronts 𝓤 H A n κs qs) (all 𝓤 H A Fs)) (e .pre to)
-      → {Z : Type 0} (Ls : Z → List Fml) (Q : Report → Z → SProp 𝓤) → ((w : Val) → ent 𝓤 (e .post to w) (mean 𝓤 H A (Answered 𝓤 H A n (front n κs) (front-share n qs) Ls Q w)))
+      → {Z : Type 0} (Ls : Z → List Fml) (Q : Report → Z → SProp 𝓤) → ((w : Val) → ent 𝓤 (e .post to w) (mean 𝓤 H A (Answered 𝓤 H A P.the-row n (front n κs) (front-share n qs) Ls Q w)))
       → (mem : Memory → SProp 𝓤) (run : Routine → Fun 𝓤) (put-s : Symbol) → Triple 𝓤 (C put-s) (Put 𝓤 H A mem run)
       → (f : Fn) (vs : List Val) (Kf : Val → SProp 𝓤) (b o k : ℕ) (σ : Ty) (log : Option Log) (ops : List ℕ) (υ : Ty) (m : Places) → f .body ≡ hand-code k σ log (relay-code s ops put-s υ m) → rest-fit (f .locals) vs
       → ((bs : Blocks (f .locals)) → Handable 𝓤 H (frame-of 𝓤 H (f .locals) bs) vs b o k log)

@@ -2,6 +2,5 @@
 mod fresh;
 mod link;
 mod never;
-mod quiet;
 mod seen;
 mod waits;

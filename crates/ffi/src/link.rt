@@ -25,7 +25,7 @@ pub extern "C" fn i2c_check_isr_flags(
 )
     ensures { λ _. ⌜ Out (λ r. Matches (outcome (record { call = checkIsrFlags; words = now (words .entry); places = size (now (log .entry)) }) (model (now (link .entry)))) r (model (now (link .exit))) (now (log .entry)) (now (log .exit))) (now (out .exit)) ⌝ }
 {
-    put_checked(lent::check_isr_flags(link, words, log), out);
+    put_checked(nonblocking::lent::check_isr_flags(link, words, log), out);
 }
 
 #[no_mangle]
@@ -39,7 +39,10 @@ pub extern "C" fn i2c_master_write(
 )
     ensures { λ _. ⌜ Out (λ r. Matches (outcome (record { call = masterWrite addr (now (bytes .entry)); words = now (words .entry); places = size (now (log .entry)) }) (model (now (link .entry)))) r (model (now (link .exit))) (now (log .entry)) (now (log .exit))) (now (out .exit)) ⌝ }
 {
-    put_started(lent::master_write(link, addr, bytes, words, log), out);
+    put_started(
+        nonblocking::lent::master_write(link, addr, bytes, words, log),
+        out,
+    );
 }
 
 #[no_mangle]
@@ -55,7 +58,7 @@ pub extern "C" fn i2c_master_write_read(
     ensures { λ _. ⌜ Out (λ r. Matches (outcome (record { call = masterWriteRead addr (now (bytes .entry)) «read_len»; words = now (words .entry); places = size (now (log .entry)) }) (model (now (link .entry)))) r (model (now (link .exit))) (now (log .entry)) (now (log .exit))) (now (out .exit)) ⌝ }
 {
     put_started(
-        lent::master_write_read(link, addr, bytes, read_len, words, log),
+        nonblocking::lent::master_write_read(link, addr, bytes, read_len, words, log),
         out,
     );
 }
@@ -71,7 +74,10 @@ pub extern "C" fn i2c_master_read(
 )
     ensures { λ _. ⌜ Out (λ r. Matches (outcome (record { call = masterRead addr «read_len»; words = now (words .entry); places = size (now (log .entry)) }) (model (now (link .entry)))) r (model (now (link .exit))) (now (log .entry)) (now (log .exit))) (now (out .exit)) ⌝ }
 {
-    put_started(lent::master_read(link, addr, read_len, words, log), out);
+    put_started(
+        nonblocking::lent::master_read(link, addr, read_len, words, log),
+        out,
+    );
 }
 
 #[no_mangle]
@@ -84,7 +90,7 @@ pub extern "C" fn i2c_slave_write(
 )
     ensures { λ _. ⌜ Out (λ r. Matches (outcome (record { call = slaveWrite (now (bytes .entry)); words = now (words .entry); places = size (now (log .entry)) }) (model (now (link .entry)))) r (model (now (link .exit))) (now (log .entry)) (now (log .exit))) (now (out .exit)) ⌝ }
 {
-    put_offered(lent::slave_write(link, bytes, words, log), out);
+    put_offered(nonblocking::lent::slave_write(link, bytes, words, log), out);
 }
 
 #[no_mangle]
@@ -96,7 +102,7 @@ pub extern "C" fn i2c_execute_watchdog(
 )
     ensures { λ _. ⌜ Out (λ r. Matches (outcome (record { call = executeWatchdog; words = now (words .entry); places = size (now (log .entry)) }) (model (now (link .entry)))) r (model (now (link .exit))) (now (log .entry)) (now (log .exit))) (now (out .exit)) ⌝ }
 {
-    put_started(lent::execute_watchdog(link, words, log), out);
+    put_started(nonblocking::lent::execute_watchdog(link, words, log), out);
 }
 
 // No word is taken, and nothing is logged.

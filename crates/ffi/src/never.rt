@@ -11,7 +11,8 @@ use blocking::construct;
 use blocking::slave;
 use flat::configured::config_of;
 use flat::out::put;
-use numbered::event;
+use never_wait::interrupts;
+use numbered::event::event_of;
 
 #[no_mangle]
 pub extern "C" fn i2c_blocking_slave_addressed(words: &[u32], log: &mut [u32], out: &mut [u64; 6])
@@ -38,7 +39,7 @@ pub extern "C" fn i2c_blocking_slave_sbc(
 pub extern "C" fn i2c_blocking_listen(event: u8, words: &[u32], log: &mut [u32], out: &mut [u64; 6])
     ensures { λ _. ⌜ Out (λ r. Reported (interrupt (eventOf event) true (now (words .entry)) (length (now (log .entry)))) (now (log .entry)) r (now (log .exit))) (now (out .exit)) ⌝ }
 {
-    let report = event::listen(event, words, log);
+    let report = interrupts::listen(event_of(event), words, log);
     put(report, out);
 }
 
@@ -51,7 +52,7 @@ pub extern "C" fn i2c_blocking_unlisten(
 )
     ensures { λ _. ⌜ Out (λ r. Reported (interrupt (eventOf event) false (now (words .entry)) (length (now (log .entry)))) (now (log .entry)) r (now (log .exit))) (now (out .exit)) ⌝ }
 {
-    let report = event::unlisten(event, words, log);
+    let report = interrupts::unlisten(event_of(event), words, log);
     put(report, out);
 }
 
@@ -59,7 +60,7 @@ pub extern "C" fn i2c_blocking_unlisten(
 pub extern "C" fn i2c_blocking_clear_irq(event: u8, log: &mut [u32], out: &mut [u64; 6])
     ensures { λ _. ⌜ Out (λ r. Reported (clearIrq (eventOf event) (length (now (log .entry)))) (now (log .entry)) r (now (log .exit))) (now (out .exit)) ⌝ }
 {
-    let report = event::clear_irq(event, log);
+    let report = interrupts::clear_irq(event_of(event), log);
     put(report, out);
 }
 

@@ -6,7 +6,6 @@ ghost use Rattle.ending.specs.Call.{masterGetData, slaveGetData, getAddress, li
 ghost use Rattle.ending.specs.Outcome.{outcome, Matches};
 ghost use Rattle.nonblocking.specs.Model.{model};
 ghost use Rattle.flat.specs.Out.{Out};
-use crate::quiet;
 use flat::out::put;
 use nonblocking::link::Link;
 
@@ -14,35 +13,45 @@ use nonblocking::link::Link;
 pub extern "C" fn i2c_master_get_data(link: &Link, out: &mut [u64; 6])
     ensures { λ _. ⌜ Out (λ r. (words log : List ℕ) → Matches (outcome (record { call = masterGetData; words = words; places = size log }) (model (now (link .entry)))) r (model (now (link .entry))) log log) (now (out .exit)) ⌝ }
 {
-    put(quiet::master_get_data(*link), out);
+    let called = Link::master_get_data(*link);
+    let report = called.report;
+    put(report, out);
 }
 
 #[no_mangle]
 pub extern "C" fn i2c_slave_get_data(link: &Link, out: &mut [u64; 6])
     ensures { λ _. ⌜ Out (λ r. (words log : List ℕ) → Matches (outcome (record { call = slaveGetData; words = words; places = size log }) (model (now (link .entry)))) r (model (now (link .entry))) log log) (now (out .exit)) ⌝ }
 {
-    put(quiet::slave_get_data(*link), out);
+    let called = Link::slave_get_data(*link);
+    let report = called.report;
+    put(report, out);
 }
 
 #[no_mangle]
 pub extern "C" fn i2c_get_address(link: &Link, out: &mut [u64; 6])
     ensures { λ _. ⌜ Out (λ r. (words log : List ℕ) → Matches (outcome (record { call = getAddress; words = words; places = size log }) (model (now (link .entry)))) r (model (now (link .entry))) log log) (now (out .exit)) ⌝ }
 {
-    put(quiet::get_address(*link), out);
+    let called = Link::get_address(*link);
+    let report = called.report;
+    put(report, out);
 }
 
 #[no_mangle]
 pub extern "C" fn i2c_listen(link: &Link, words: &[u32], log: &mut [u32], out: &mut [u64; 6])
     ensures { λ _. ⌜ Out (λ r. Matches (outcome (record { call = listen; words = now (words .entry); places = size (now (log .entry)) }) (model (now (link .entry)))) r (model (now (link .entry))) (now (log .entry)) (now (log .exit))) (now (out .exit)) ⌝ }
 {
-    put(quiet::listen(*link, words, log), out);
+    let called = Link::listen(*link, words, log);
+    let report = called.report;
+    put(report, out);
 }
 
 #[no_mangle]
 pub extern "C" fn i2c_unlisten(link: &Link, words: &[u32], log: &mut [u32], out: &mut [u64; 6])
     ensures { λ _. ⌜ Out (λ r. Matches (outcome (record { call = unlisten; words = now (words .entry); places = size (now (log .entry)) }) (model (now (link .entry)))) r (model (now (link .entry))) (now (log .entry)) (now (log .exit))) (now (out .exit)) ⌝ }
 {
-    put(quiet::unlisten(*link, words, log), out);
+    let called = Link::unlisten(*link, words, log);
+    let report = called.report;
+    put(report, out);
 }
 
 #[no_mangle]
@@ -55,7 +64,9 @@ pub extern "C" fn i2c_slave_sbc(
 )
     ensures { λ _. ⌜ Out (λ r. Matches (outcome (record { call = slaveSbc on; words = now (words .entry); places = size (now (log .entry)) }) (model (now (link .entry)))) r (model (now (link .entry))) (now (log .entry)) (now (log .exit))) (now (out .exit)) ⌝ }
 {
-    put(quiet::slave_sbc(*link, on, words, log), out);
+    let called = Link::slave_sbc(*link, on, words, log);
+    let report = called.report;
+    put(report, out);
 }
 
 #[no_mangle]
@@ -68,5 +79,7 @@ pub extern "C" fn i2c_set_address(
 )
     ensures { λ _. ⌜ Out (λ r. Matches (outcome (record { call = setAddress address; words = now (words .entry); places = size (now (log .entry)) }) (model (now (link .entry)))) r (model (now (link .entry))) (now (log .entry)) (now (log .exit))) (now (out .exit)) ⌝ }
 {
-    put(quiet::set_address(*link, address, words, log), out);
+    let called = Link::set_address(*link, address, words, log);
+    let report = called.report;
+    put(report, out);
 }

@@ -109,15 +109,7 @@ pub extern "C" fn i2c_blocking_resume(
 )
     ensures { λ _. ⌜ Left (λ r. Whole (outcome (now (send .entry)) (room (now (log .entry))) (takenUp (now (parked .entry))) (now (receive .entry)) (now (words .entry))) (now (log .entry)) r (now (log .exit)) (now (receive .exit))) (now (parked .exit)) (now (out .exit)) ⌝ }
 {
-    let call = take_up(
-        parked[0],
-        parked[1],
-        parked[2],
-        parked[3],
-        parked[4],
-        parked[5],
-        parked[6],
-    );
+    let call = take_up(parked);
     let ran = run(call, send, receive, words, log);
     leave(ran, parked, out);
 }

@@ -21,19 +21,19 @@ masks = MaskNone ∷ MaskOneBit ∷ MaskTwoBits ∷ MaskThreeBits ∷ MaskFourBi
 abbrev pub maskOf : ℕ → SlaveAddressMask
 maskOf n = getD masks n MaskAllBits
 
--- the two settings, the two filters, the own address and whether it is long, the second address and its mask
-abbrev pub configured : Setting → Setting → ℕ → ℕ → ℕ → ℕ → ℕ → ℕ → Config
-configured speed timing analog digital own long second mask = record {
+-- the two settings, and from the fifth number on the two filters, the own address and whether it is long, the second address and its mask
+abbrev pub configured : Setting → Setting → List ℕ → Config
+configured speed timing xs = record {
   speed = speed;
   timing = timing;
-  «analog_filter» = ltb 0 analog;
-  «digital_filter» = digital % 256;
-  «slave_address_1» = own % 65536;
-  «address_11bits» = ltb 0 long;
-  «slave_address_2» = second % 256;
-  «slave_address_mask» = maskOf mask;
+  «analog_filter» = ltb 0 (getD xs 4 0);
+  «digital_filter» = getD xs 5 0 % 256;
+  «slave_address_1» = getD xs 6 0 % 65536;
+  «address_11bits» = ltb 0 (getD xs 7 0);
+  «slave_address_2» = getD xs 8 0 % 256;
+  «slave_address_mask» = maskOf (getD xs 9 0);
 }
 
 -- speed and timing are two numbers each: whether it is set, and its value
 abbrev pub configOf : List ℕ → Config
-configOf xs = configured (settingOf (getD xs 0 0) (getD xs 1 0)) (settingOf (getD xs 2 0) (getD xs 3 0)) (getD xs 4 0) (getD xs 5 0) (getD xs 6 0) (getD xs 7 0) (getD xs 8 0) (getD xs 9 0)
+configOf xs = configured (settingOf (getD xs 0 0) (getD xs 1 0)) (settingOf (getD xs 2 0) (getD xs 3 0)) xs

@@ -10,39 +10,21 @@ pub fn config_of(numbers: &[u32; 10]) -> Config
 {
     let speed = setting_of(numbers[0], numbers[1]);
     let timing = setting_of(numbers[2], numbers[3]);
-    configured(
-        speed,
-        timing,
-        numbers[4],
-        numbers[5],
-        numbers[6],
-        numbers[7],
-        numbers[8],
-        numbers[9],
-    )
+    configured(speed, timing, numbers)
 }
 
-fn configured(
-    speed: Setting,
-    timing: Setting,
-    analog: u32,
-    digital: u32,
-    own: u32,
-    long: u32,
-    second: u32,
-    mask: u32,
-) -> Config
-    ensures { λ r. ⌜ r ≡ configured speed timing analog digital own long second mask ⌝ }
+fn configured(speed: Setting, timing: Setting, numbers: &[u32; 10]) -> Config
+    ensures { λ r. ⌜ r ≡ configured speed timing (now (numbers .entry)) ⌝ }
 {
-    let slave_address_mask = mask_of(mask);
+    let slave_address_mask = mask_of(numbers[9]);
     Config {
         speed,
         timing,
-        analog_filter: 0 < analog,
-        digital_filter: (digital % 256) as u8,
-        slave_address_1: (own % 65536) as u16,
-        address_11bits: 0 < long,
-        slave_address_2: (second % 256) as u8,
+        analog_filter: 0 < numbers[4],
+        digital_filter: (numbers[5] % 256) as u8,
+        slave_address_1: (numbers[6] % 65536) as u16,
+        address_11bits: 0 < numbers[7],
+        slave_address_2: (numbers[8] % 256) as u8,
         slave_address_mask,
     }
 }

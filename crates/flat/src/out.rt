@@ -8,66 +8,61 @@ use six::fill;
 pub fn put(report: Report, out: &mut [u64; 6])
     ensures { λ _. ⌜ now (out .exit) ≡ flat report ⌝ }
 {
-    let taken = report.taken;
-    let logged = report.logged;
+    let taken = report.taken as u64;
+    let logged = report.logged as u64;
     let answer = report.answer;
     match answer {
-        Answer::Done => fill(out, 0, taken, logged, 0, 0, 0),
-        Answer::Pending => fill(out, 1, taken, logged, 0, 0, 0),
-        Answer::Nack => fill(out, 2, taken, logged, 0, 0, 0),
-        Answer::BusError => fill(out, 3, taken, logged, 0, 0, 0),
-        Answer::ArbitrationLost => fill(out, 4, taken, logged, 0, 0, 0),
-        Answer::IncorrectFrameSize(count) => fill(out, 5, taken, logged, count, 0, 0),
-        Answer::BadLength => fill(out, 6, taken, logged, 0, 0, 0),
-        Answer::NoRate => fill(out, 7, taken, logged, 0, 0, 0),
-        Answer::BadFilter => fill(out, 8, taken, logged, 0, 0, 0),
-        Answer::OutOfWords => fill(out, 9, taken, logged, 0, 0, 0),
-        Answer::LogFull => fill(out, 10, taken, logged, 0, 0, 0),
-        Answer::WrongCall => fill(out, 11, taken, logged, 0, 0, 0),
-        Answer::ImpossibleLink => fill(out, 12, taken, logged, 0, 0, 0),
+        Answer::IncorrectFrameSize(count) => *out = [5, taken, logged, count as u64, 0, 0],
         Answer::Data {
             address,
             direction,
             count,
-        } => fill(
-            out,
+        } => *out = [
             0x44,
             taken,
             logged,
-            address as usize,
-            direction.number() as usize,
-            count,
-        ),
-        Answer::Addressed { address, direction } => fill(
-            out,
+            address as u64,
+            direction.number() as u64,
+            count as u64,
+        ],
+        Answer::Addressed { address, direction } => *out = [
             0x41,
             taken,
             logged,
-            address as usize,
-            direction.number() as usize,
+            address as u64,
+            direction.number() as u64,
+            0,
+        ],
+        Answer::Errors(count) => *out = [0x45, taken, logged, count as u64, 0, 0],
+        Answer::Address(address) => *out = [0x4E, taken, logged, address as u64, 0, 0],
+        Answer::Bytes(count) => *out = [0x47, taken, logged, count as u64, 0, 0],
+        _ => fill(
+            out,
+            answer.number() as usize,
+            report.taken,
+            report.logged,
+            0,
+            0,
             0,
         ),
-        Answer::Errors(count) => fill(out, 0x45, taken, logged, count as usize, 0, 0),
-        Answer::Address(address) => fill(out, 0x4E, taken, logged, address as usize, 0, 0),
-        Answer::Bytes(count) => fill(out, 0x47, taken, logged, count, 0, 0),
     }
 }
 
-// The same for the hot calls, each with the answers that it gives. These are small, so that they are inlined and each path of a call ends in its own six numbers.
+// The same for the hot calls, each with the answers that it gives, five at the most where it has several callers: so small it is inlined, and each path of a call ends in its own six numbers.
 
 // After a start of the master, or the watchdog.
 pub fn put_started(report: Report, out: &mut [u64; 6])
     ensures { λ _. ⌜ now (out .exit) ≡ flat report ⌝ }
 {
-    let taken = report.taken;
-    let logged = report.logged;
+    let taken = report.taken as u64;
+    let logged = report.logged as u64;
     let answer = report.answer;
     match answer {
-        Answer::Done => fill(out, 0, taken, logged, 0, 0, 0),
-        Answer::Pending => fill(out, 1, taken, logged, 0, 0, 0),
-        Answer::OutOfWords => fill(out, 9, taken, logged, 0, 0, 0),
-        Answer::LogFull => fill(out, 10, taken, logged, 0, 0, 0),
-        Answer::ImpossibleLink => fill(out, 12, taken, logged, 0, 0, 0),
+        Answer::Done => *out = [0, taken, logged, 0, 0, 0],
+        Answer::Pending => *out = [1, taken, logged, 0, 0, 0],
+        Answer::OutOfWords => *out = [9, taken, logged, 0, 0, 0],
+        Answer::LogFull => *out = [10, taken, logged, 0, 0, 0],
+        Answer::ImpossibleLink => *out = [12, taken, logged, 0, 0, 0],
         _ => put(report, out),
     }
 }
@@ -76,57 +71,15 @@ pub fn put_started(report: Report, out: &mut [u64; 6])
 pub fn put_offered(report: Report, out: &mut [u64; 6])
     ensures { λ _. ⌜ now (out .exit) ≡ flat report ⌝ }
 {
-    let taken = report.taken;
-    let logged = report.logged;
+    let taken = report.taken as u64;
+    let logged = report.logged as u64;
     let answer = report.answer;
     match answer {
-        Answer::Done => fill(out, 0, taken, logged, 0, 0, 0),
-        Answer::BadLength => fill(out, 6, taken, logged, 0, 0, 0),
-        Answer::OutOfWords => fill(out, 9, taken, logged, 0, 0, 0),
-        Answer::LogFull => fill(out, 10, taken, logged, 0, 0, 0),
-        Answer::ImpossibleLink => fill(out, 12, taken, logged, 0, 0, 0),
-        _ => put(report, out),
-    }
-}
-
-// After a check.
-pub fn put_checked(report: Report, out: &mut [u64; 6])
-    ensures { λ _. ⌜ now (out .exit) ≡ flat report ⌝ }
-{
-    let taken = report.taken;
-    let logged = report.logged;
-    let answer = report.answer;
-    match answer {
-        Answer::Pending => fill(out, 1, taken, logged, 0, 0, 0),
-        Answer::Nack => fill(out, 2, taken, logged, 0, 0, 0),
-        Answer::BusError => fill(out, 3, taken, logged, 0, 0, 0),
-        Answer::ArbitrationLost => fill(out, 4, taken, logged, 0, 0, 0),
-        Answer::IncorrectFrameSize(count) => fill(out, 5, taken, logged, count, 0, 0),
-        Answer::OutOfWords => fill(out, 9, taken, logged, 0, 0, 0),
-        Answer::LogFull => fill(out, 10, taken, logged, 0, 0, 0),
-        Answer::ImpossibleLink => fill(out, 12, taken, logged, 0, 0, 0),
-        Answer::Data {
-            address,
-            direction,
-            count,
-        } => fill(
-            out,
-            0x44,
-            taken,
-            logged,
-            address as usize,
-            direction.number() as usize,
-            count,
-        ),
-        Answer::Addressed { address, direction } => fill(
-            out,
-            0x41,
-            taken,
-            logged,
-            address as usize,
-            direction.number() as usize,
-            0,
-        ),
+        Answer::Done => *out = [0, taken, logged, 0, 0, 0],
+        Answer::BadLength => *out = [6, taken, logged, 0, 0, 0],
+        Answer::OutOfWords => *out = [9, taken, logged, 0, 0, 0],
+        Answer::LogFull => *out = [10, taken, logged, 0, 0, 0],
+        Answer::ImpossibleLink => *out = [12, taken, logged, 0, 0, 0],
         _ => put(report, out),
     }
 }
@@ -135,12 +88,52 @@ pub fn put_checked(report: Report, out: &mut [u64; 6])
 pub fn put_errors(report: Report, out: &mut [u64; 6])
     ensures { λ _. ⌜ now (out .exit) ≡ flat report ⌝ }
 {
-    let taken = report.taken;
-    let logged = report.logged;
+    let taken = report.taken as u64;
+    let logged = report.logged as u64;
     let answer = report.answer;
     match answer {
-        Answer::Errors(count) => fill(out, 0x45, taken, logged, count as usize, 0, 0),
-        Answer::ImpossibleLink => fill(out, 12, taken, logged, 0, 0, 0),
+        Answer::Errors(count) => *out = [0x45, taken, logged, count as u64, 0, 0],
+        Answer::ImpossibleLink => *out = [12, taken, logged, 0, 0, 0],
+        _ => put(report, out),
+    }
+}
+
+// After a check.
+pub fn put_checked(report: Report, out: &mut [u64; 6])
+    ensures { λ _. ⌜ now (out .exit) ≡ flat report ⌝ }
+{
+    let taken = report.taken as u64;
+    let logged = report.logged as u64;
+    let answer = report.answer;
+    match answer {
+        Answer::Pending => *out = [1, taken, logged, 0, 0, 0],
+        Answer::Nack => *out = [2, taken, logged, 0, 0, 0],
+        Answer::BusError => *out = [3, taken, logged, 0, 0, 0],
+        Answer::ArbitrationLost => *out = [4, taken, logged, 0, 0, 0],
+        Answer::IncorrectFrameSize(count) => *out = [5, taken, logged, count as u64, 0, 0],
+        Answer::OutOfWords => *out = [9, taken, logged, 0, 0, 0],
+        Answer::LogFull => *out = [10, taken, logged, 0, 0, 0],
+        Answer::ImpossibleLink => *out = [12, taken, logged, 0, 0, 0],
+        Answer::Data {
+            address,
+            direction,
+            count,
+        } => *out = [
+            0x44,
+            taken,
+            logged,
+            address as u64,
+            direction.number() as u64,
+            count as u64,
+        ],
+        Answer::Addressed { address, direction } => *out = [
+            0x41,
+            taken,
+            logged,
+            address as u64,
+            direction.number() as u64,
+            0,
+        ],
         _ => put(report, out),
     }
 }
@@ -149,27 +142,31 @@ pub fn put_errors(report: Report, out: &mut [u64; 6])
 pub fn put_ran(report: Report, out: &mut [u64; 6])
     ensures { λ _. ⌜ now (out .exit) ≡ flat report ⌝ }
 {
-    let taken = report.taken;
-    let logged = report.logged;
+    let taken = report.taken as u64;
+    let logged = report.logged as u64;
     let answer = report.answer;
     match answer {
-        Answer::Done => fill(out, 0, taken, logged, 0, 0, 0),
-        Answer::Nack => fill(out, 2, taken, logged, 0, 0, 0),
-        Answer::BusError => fill(out, 3, taken, logged, 0, 0, 0),
-        Answer::ArbitrationLost => fill(out, 4, taken, logged, 0, 0, 0),
-        Answer::IncorrectFrameSize(count) => fill(out, 5, taken, logged, count, 0, 0),
-        Answer::OutOfWords => fill(out, 9, taken, logged, 0, 0, 0),
-        Answer::LogFull => fill(out, 10, taken, logged, 0, 0, 0),
-        Answer::WrongCall => fill(out, 11, taken, logged, 0, 0, 0),
-        Answer::Addressed { address, direction } => fill(
-            out,
+        Answer::IncorrectFrameSize(count) => *out = [5, taken, logged, count as u64, 0, 0],
+        Answer::Addressed { address, direction } => *out = [
             0x41,
             taken,
             logged,
-            address as usize,
-            direction.number() as usize,
+            address as u64,
+            direction.number() as u64,
             0,
-        ),
+        ],
+        Answer::Done
+        | Answer::Pending
+        | Answer::Nack
+        | Answer::BusError
+        | Answer::ArbitrationLost
+        | Answer::BadLength
+        | Answer::NoRate
+        | Answer::BadFilter
+        | Answer::OutOfWords
+        | Answer::LogFull
+        | Answer::WrongCall
+        | Answer::ImpossibleLink => *out = [answer.number() as u64, taken, logged, 0, 0, 0],
         _ => put(report, out),
     }
 }

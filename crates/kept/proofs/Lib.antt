@@ -1,2 +1,3 @@
 pub mod Back
 pub mod Past
+pub mod Wordless

@@ -123,18 +123,15 @@ abbrev pub laid : Parked → List ℕ
 laid p = kindNumber (p .kind) ∷ p .address ∷ p .send ∷ p .receive ∷ phaseNumber (p .phase) ∷ phaseWord (p .phase) ∷ p .count ∷ []
 
 -- the call of seven numbers, whatever they are
-abbrev pub callOf : ℕ → ℕ → ℕ → ℕ → ℕ → ℕ → ℕ → Parked
-callOf kind address send receive phase word count = record {
-  kind = kindOf kind;
-  address = address % 256;
-  send = send;
-  receive = receive;
-  phase = phaseOf phase (word % 4294967296);
-  count = count;
-}
-
 abbrev pub takenUp : List ℕ → Parked
-takenUp xs = callOf (getD xs 0 0) (getD xs 1 0) (getD xs 2 0) (getD xs 3 0) (getD xs 4 0) (getD xs 5 0) (getD xs 6 0)
+takenUp xs = record {
+  kind = kindOf (getD xs 0 0);
+  address = getD xs 1 0 % 256;
+  send = getD xs 2 0;
+  receive = getD xs 3 0;
+  phase = phaseOf (getD xs 4 0) (getD xs 5 0 % 4294967296);
+  count = getD xs 6 0;
+}
 
 -- what is laid down is taken up again
 abbrev pub KeptCall : Type 0

@@ -8,6 +8,8 @@ use parked::Opening;
 use parked::Parked;
 use parked::Phase;
 
+pub mod taken;
+
 // What is laid down is taken up again.
 pub fn kept_call()
     ensures { λ r. ⌜ KeptCall ⌝ }
@@ -98,18 +100,23 @@ fn phase_number(phase: Phase) -> u64
 }
 
 // The word that a phase remembers, 0 where it has none.
+fn phase_word(phase: Phase) -> u64
+    ensures { λ r. ⌜ r ≡ phaseWord phase ⌝ }
+{
+    match phase {
+        Phase::Open(opening) => opening_word(opening),
+        Phase::Refuse(word) => word as u64,
+        Phase::Ended(end) => end_word(end),
+        _ => 0,
+    }
+}
+
 fn opening_word(opening: Opening) -> u64
     ensures { λ r. ⌜ r ≡ openingWord opening ⌝ }
 {
     match opening {
-        Opening::Start => 0,
-        Opening::Drain => 0,
-        Opening::Modify => 0,
         Opening::Setup(word) => word as u64,
-        Opening::Flush => 0,
-        Opening::Release => 0,
-        Opening::Probe => 0,
-        Opening::Drop => 0,
+        _ => 0,
     }
 }
 
@@ -117,37 +124,7 @@ fn end_word(end: End) -> u64
     ensures { λ r. ⌜ r ≡ endWord end ⌝ }
 {
     match end {
-        End::OutOfWords => 0,
-        End::LogFull => 0,
-        End::BadLength => 0,
-        End::Berr => 0,
-        End::Arlo => 0,
-        End::Addr => 0,
-        End::Stopf => 0,
         End::Addressed(word) => word as u64,
-    }
-}
-
-fn phase_word(phase: Phase) -> u64
-    ensures { λ r. ⌜ r ≡ phaseWord phase ⌝ }
-{
-    match phase {
-        Phase::Open(opening) => opening_word(opening),
-        Phase::Wait => 0,
-        Phase::Transfer => 0,
-        Phase::Restart => 0,
-        Phase::Stretched => 0,
-        Phase::Refuse(word) => word as u64,
-        Phase::ClearBerr => 0,
-        Phase::ClearArlo => 0,
-        Phase::ClearNackf => 0,
-        Phase::ClearStopf => 0,
-        Phase::FlushTxis => 0,
-        Phase::FlushDummy => 0,
-        Phase::FlushTxe => 0,
-        Phase::FlushEmpty => 0,
-        Phase::Listen => 0,
-        Phase::Code => 0,
-        Phase::Ended(end) => end_word(end),
+        _ => 0,
     }
 }

@@ -1,6 +1,6 @@
--- The limits of a configuration, the speeds and the cycles of the digital filter, and of a transfer's length.
+-- The limits of a configuration, the speeds and the cycles of the digital filter, of a transfer's length, and of what a link holds.
 use Prim.Native.Nat.{ℕ}
-use mathlib.Core.Bool.{Bool, cond, _&&_}
+use mathlib.Core.Bool.{Bool, cond, _&&_, _||_}
 use lib.Dec.{ltb, leb}
 use Rattle.limits.specs.declared.Mode.{Mode}
 
@@ -18,3 +18,7 @@ filterAllowed cycles = leb cycles 16
 -- the bytes of a call that sends or receives are 1 to 255
 abbrev pub lengthAllowed : ℕ → Bool
 lengthAllowed n = ltb 0 n && leb n 255
+
+-- answer 12: an index above the length, a length above 255, a watchdog above 10
+abbrev pub impossibleAt : ℕ → ℕ → ℕ → ℕ → Bool
+impossibleAt index length second watchdog = ltb length index || ltb 255 length || ltb 255 second || ltb 10 watchdog

@@ -1,7 +1,7 @@
-// The limits of a configuration, what a speed comes with and the cycles of the digital filter, and of a transfer's length.
+// The limits of a configuration, what a speed comes with and the cycles of the digital filter, of a transfer's length, and of what a link holds.
 ghost use mathlib.Core.Path.{_≡_};
 ghost use Prim.Native.Nat.{_<_, _≤_};
-ghost use Rattle.limits.specs.Limits.{modeOf, filterAllowed, lengthAllowed};
+ghost use Rattle.limits.specs.Limits.{modeOf, filterAllowed, lengthAllowed, impossibleAt};
 
 // What a speed comes with: the prescaler, the least quotient, how much shorter SCLH is than SCLL, and the delays.
 pub struct Mode {
@@ -50,4 +50,20 @@ pub fn length_allowed(length: usize) -> bool
         return false;
     }
     length <= 255
+}
+
+// Whether no run of calls leaves such a link: answer 12.
+pub fn impossible(index: usize, length: usize, length_write_read: usize, watchdog: u16) -> bool
+    ensures { λ r. ⌜ r ≡ impossibleAt index length «length_write_read» watchdog ⌝ }
+{
+    if length < index {
+        return true;
+    }
+    if 255 < length {
+        return true;
+    }
+    if 255 < length_write_read {
+        return true;
+    }
+    10 < watchdog
 }

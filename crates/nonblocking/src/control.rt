@@ -10,13 +10,13 @@ ghost use Rattle.nonblocking.specs.Model.{model};
 ghost use Rattle.ending.specs.Outcome.{outcome, settled, Matches};
 use crate::link::Called;
 use crate::link::Link;
-use access::refused;
 use access::settle;
 use access::word_at;
 use answers::Answer;
 use checks::watchdog::watchdog_fields;
+use errors::impossible_link;
+use limits::impossible;
 use registers::cr1::Cr1;
-use starts::impossible;
 
 impl Link {
     // To be called every tenth of a second, if at all: after ten calls without an end of the transfer the unit is reset.
@@ -61,7 +61,7 @@ impl Link {
         ) {
             return Called {
                 link: self,
-                report: refused(Answer::ImpossibleLink),
+                report: impossible_link(),
             };
         }
         let mut link = self;
@@ -97,7 +97,7 @@ impl Link {
         ) {
             return Called {
                 link: self,
-                report: refused(Answer::ImpossibleLink),
+                report: impossible_link(),
             };
         }
         let cr1 = word_at(words, 0);

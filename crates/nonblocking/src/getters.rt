@@ -12,7 +12,8 @@ use crate::link::Called;
 use crate::link::Link;
 use access::refused;
 use answers::Answer;
-use starts::impossible;
+use errors::impossible_link;
+use limits::impossible;
 
 impl Link {
     // Shows as many bytes as the last transfer was to have.
@@ -47,7 +48,7 @@ impl Link {
         ) {
             return Called {
                 link: self,
-                report: refused(Answer::ImpossibleLink),
+                report: impossible_link(),
             };
         }
         Called {

@@ -5,13 +5,13 @@ ghost use Rattle.nonblocking.specs.Model.{model};
 ghost use Rattle.ending.specs.Outcome.{outcome, Matches};
 use crate::link::Called;
 use crate::link::Link;
-use access::refused;
 use access::settle;
 use access::word_at;
 use answers::Answer;
+use errors::impossible_link;
+use limits::impossible;
 use registers::cr1::Cr1;
 use registers::oar::Oar1;
-use starts::impossible;
 use starts::slave::slave_write_fields;
 
 impl Link {
@@ -58,7 +58,7 @@ impl Link {
         ) {
             return Called {
                 link: self,
-                report: refused(Answer::ImpossibleLink),
+                report: impossible_link(),
             };
         }
         let cr1 = word_at(words, 0);
@@ -86,7 +86,7 @@ impl Link {
         ) {
             return Called {
                 link: self,
-                report: refused(Answer::ImpossibleLink),
+                report: impossible_link(),
             };
         }
         let entries = [

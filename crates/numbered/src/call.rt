@@ -1,81 +1,25 @@
 // A parked call by its seven numbers. Every number is taken.
 ghost use mathlib.Core.Path.{_≡_};
-ghost use Rattle.kept.specs.Kept.{kindOf, phaseOf, callOf};
-use parked::End;
-use parked::Kind;
-use parked::Opening;
+ghost use Rattle.kept.specs.Kept.{takenUp};
+use kept::taken::kind_of;
+use kept::taken::phase_of;
 use parked::Parked;
-use parked::Phase;
 
-pub fn take_up(
-    kind: u64,
-    address: u64,
-    send: u64,
-    receive: u64,
-    phase: u64,
-    word: u64,
-    count: u64,
-) -> Parked
-    ensures { λ r. ⌜ r ≡ callOf kind address send receive phase word count ⌝ }
+pub fn take_up(numbers: &[u64; 7]) -> Parked
+    ensures { λ r. ⌜ r ≡ takenUp (now (numbers .entry)) ⌝ }
 {
+    let address = (numbers[1] % 256) as u8;
+    let send = numbers[2] as usize;
+    let receive = numbers[3] as usize;
+    let count = numbers[6] as usize;
+    let kind = kind_of(numbers[0]);
+    let phase = phase_of(numbers[4], (numbers[5] % 4294967296) as u32);
     Parked {
-        kind: kind_of(kind),
-        address: (address % 256) as u8,
-        send: send as usize,
-        receive: receive as usize,
-        phase: phase_of(phase, (word % 4294967296) as u32),
-        count: count as usize,
-    }
-}
-
-fn kind_of(number: u64) -> Kind
-    ensures { λ r. ⌜ r ≡ kindOf number ⌝ }
-{
-    match number {
-        0 => Kind::Write,
-        1 => Kind::Read,
-        2 => Kind::WriteRead,
-        3 => Kind::ReadBack,
-        4 => Kind::SlaveWrite,
-        5 => Kind::SlaveRead,
-        _ => Kind::SlaveWaitAddressed,
-    }
-}
-
-fn phase_of(number: u64, word: u32) -> Phase
-    ensures { λ r. ⌜ r ≡ phaseOf number word ⌝ }
-{
-    match number {
-        0 => Phase::Open(Opening::Start),
-        1 => Phase::Open(Opening::Drain),
-        2 => Phase::Open(Opening::Modify),
-        3 => Phase::Open(Opening::Setup(word)),
-        4 => Phase::Open(Opening::Flush),
-        5 => Phase::Open(Opening::Release),
-        6 => Phase::Open(Opening::Probe),
-        7 => Phase::Open(Opening::Drop),
-        8 => Phase::Wait,
-        9 => Phase::Transfer,
-        10 => Phase::Restart,
-        11 => Phase::Stretched,
-        12 => Phase::Refuse(word),
-        13 => Phase::ClearBerr,
-        14 => Phase::ClearArlo,
-        15 => Phase::ClearNackf,
-        16 => Phase::ClearStopf,
-        17 => Phase::FlushTxis,
-        18 => Phase::FlushDummy,
-        19 => Phase::FlushTxe,
-        20 => Phase::FlushEmpty,
-        21 => Phase::Listen,
-        22 => Phase::Code,
-        23 => Phase::Ended(End::OutOfWords),
-        24 => Phase::Ended(End::LogFull),
-        25 => Phase::Ended(End::BadLength),
-        26 => Phase::Ended(End::Berr),
-        27 => Phase::Ended(End::Arlo),
-        28 => Phase::Ended(End::Addr),
-        29 => Phase::Ended(End::Stopf),
-        _ => Phase::Ended(End::Addressed(word)),
+        kind,
+        address,
+        send,
+        receive,
+        phase,
+        count,
     }
 }

@@ -119,7 +119,7 @@ impl Parked {
         let phase = self.phase;
         let kind = self.kind;
         match phase {
-            Phase::Open(step) => step.after(kind, word),
+            Phase::Open(step) => before_wait::after(step, kind, word),
             Phase::Wait => self.busy_wait(word),
             Phase::Transfer => Phase::Wait,
             Phase::Restart => Phase::Wait,

@@ -13,13 +13,8 @@ impl Kind {
         ensures { λ r. ⌜ r ≡ sends self ⌝ }
     {
         match self {
-            Kind::Write => true,
-            Kind::Read => false,
-            Kind::WriteRead => true,
-            Kind::ReadBack => true,
-            Kind::SlaveWrite => true,
-            Kind::SlaveRead => false,
-            Kind::SlaveWaitAddressed => false,
+            Kind::Write | Kind::WriteRead | Kind::ReadBack | Kind::SlaveWrite => true,
+            Kind::Read | Kind::SlaveRead | Kind::SlaveWaitAddressed => false,
         }
     }
 
@@ -28,13 +23,8 @@ impl Kind {
         ensures { λ r. ⌜ r ≡ receives self ⌝ }
     {
         match self {
-            Kind::Write => false,
-            Kind::Read => true,
-            Kind::WriteRead => true,
-            Kind::ReadBack => true,
-            Kind::SlaveWrite => false,
-            Kind::SlaveRead => true,
-            Kind::SlaveWaitAddressed => false,
+            Kind::Write | Kind::SlaveWrite | Kind::SlaveWaitAddressed => false,
+            Kind::Read | Kind::WriteRead | Kind::ReadBack | Kind::SlaveRead => true,
         }
     }
 
@@ -43,13 +33,8 @@ impl Kind {
         ensures { λ r. ⌜ r ≡ incoming self ⌝ }
     {
         match self {
-            Kind::Write => false,
-            Kind::Read => true,
-            Kind::WriteRead => false,
-            Kind::ReadBack => true,
-            Kind::SlaveWrite => false,
-            Kind::SlaveRead => true,
-            Kind::SlaveWaitAddressed => true,
+            Kind::Write | Kind::WriteRead | Kind::SlaveWrite => false,
+            Kind::Read | Kind::ReadBack | Kind::SlaveRead | Kind::SlaveWaitAddressed => true,
         }
     }
 
@@ -58,13 +43,8 @@ impl Kind {
         ensures { λ r. ⌜ r ≡ restarts self ⌝ }
     {
         match self {
-            Kind::Write => false,
-            Kind::Read => false,
             Kind::WriteRead => true,
-            Kind::ReadBack => false,
-            Kind::SlaveWrite => false,
-            Kind::SlaveRead => false,
-            Kind::SlaveWaitAddressed => false,
+            _ => false,
         }
     }
 
@@ -73,13 +53,8 @@ impl Kind {
         ensures { λ r. ⌜ r ≡ pads self ⌝ }
     {
         match self {
-            Kind::Write => false,
-            Kind::Read => false,
-            Kind::WriteRead => false,
-            Kind::ReadBack => false,
             Kind::SlaveWrite => true,
-            Kind::SlaveRead => false,
-            Kind::SlaveWaitAddressed => false,
+            _ => false,
         }
     }
 }
@@ -91,12 +66,10 @@ impl Kind {
         ensures { λ r. ⌜ r ≡ opening self ⌝ }
     {
         match self {
-            Kind::Write => Phase::Open(Opening::Start),
-            Kind::Read => Phase::Open(Opening::Start),
-            Kind::WriteRead => Phase::Open(Opening::Start),
-            Kind::ReadBack => Phase::Open(Opening::Start),
-            Kind::SlaveWrite => Phase::Open(Opening::Modify),
-            Kind::SlaveRead => Phase::Open(Opening::Modify),
+            Kind::Write | Kind::Read | Kind::WriteRead | Kind::ReadBack => Phase::Open(
+                Opening::Start,
+            ),
+            Kind::SlaveWrite | Kind::SlaveRead => Phase::Open(Opening::Modify),
             Kind::SlaveWaitAddressed => Phase::Listen,
         }
     }
@@ -106,13 +79,9 @@ impl Kind {
         ensures { λ r. ⌜ r ≡ afterStart self ⌝ }
     {
         match self {
-            Kind::Write => Opening::Modify,
             Kind::Read => Opening::Drain,
             Kind::WriteRead => Opening::Flush,
-            Kind::ReadBack => Opening::Modify,
-            Kind::SlaveWrite => Opening::Modify,
-            Kind::SlaveRead => Opening::Modify,
-            Kind::SlaveWaitAddressed => Opening::Modify,
+            _ => Opening::Modify,
         }
     }
 
@@ -136,13 +105,9 @@ impl Kind {
         ensures { λ r. ⌜ r ≡ afterSetup self ⌝ }
     {
         match self {
-            Kind::Write => Phase::Wait,
-            Kind::Read => Phase::Wait,
-            Kind::WriteRead => Phase::Wait,
-            Kind::ReadBack => Phase::Wait,
             Kind::SlaveWrite => Phase::Open(Opening::Flush),
             Kind::SlaveRead => Phase::Open(Opening::Release),
-            Kind::SlaveWaitAddressed => Phase::Wait,
+            _ => Phase::Wait,
         }
     }
 
@@ -151,13 +116,8 @@ impl Kind {
         ensures { λ r. ⌜ r ≡ afterFlush self ⌝ }
     {
         match self {
-            Kind::Write => Opening::Release,
-            Kind::Read => Opening::Release,
             Kind::WriteRead => Opening::Setup(0),
-            Kind::ReadBack => Opening::Release,
-            Kind::SlaveWrite => Opening::Release,
-            Kind::SlaveRead => Opening::Release,
-            Kind::SlaveWaitAddressed => Opening::Release,
+            _ => Opening::Release,
         }
     }
 
@@ -166,13 +126,8 @@ impl Kind {
         ensures { λ r. ⌜ r ≡ afterRelease self ⌝ }
     {
         match self {
-            Kind::Write => Phase::Wait,
-            Kind::Read => Phase::Wait,
-            Kind::WriteRead => Phase::Wait,
-            Kind::ReadBack => Phase::Wait,
-            Kind::SlaveWrite => Phase::Wait,
             Kind::SlaveRead => Phase::Open(Opening::Probe),
-            Kind::SlaveWaitAddressed => Phase::Wait,
+            _ => Phase::Wait,
         }
     }
 }

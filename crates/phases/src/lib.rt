@@ -5,7 +5,6 @@ ghost use Rattle.phases.specs.Phases.{role};
 
 pub mod kinds;
 pub mod lengths;
-pub mod open;
 
 // The calls that wait.
 pub enum Kind {
@@ -95,23 +94,10 @@ impl Phase {
         ensures { λ r. ⌜ r ≡ role self ⌝ }
     {
         match self {
-            Phase::Open(_) => Role::Other,
-            Phase::Wait => Role::Other,
             Phase::Transfer => Role::Byte,
             Phase::Restart => Role::Second,
-            Phase::Stretched => Role::Other,
-            Phase::Refuse(_) => Role::Other,
-            Phase::ClearBerr => Role::Other,
-            Phase::ClearArlo => Role::Other,
-            Phase::ClearNackf => Role::Other,
-            Phase::ClearStopf => Role::Other,
-            Phase::FlushTxis => Role::Other,
-            Phase::FlushDummy => Role::Other,
-            Phase::FlushTxe => Role::Other,
-            Phase::FlushEmpty => Role::Other,
-            Phase::Listen => Role::Other,
-            Phase::Code => Role::Other,
             Phase::Ended(_) => Role::Nothing,
+            _ => Role::Other,
         }
     }
 }

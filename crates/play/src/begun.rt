@@ -1,4 +1,5 @@
 // The blocking calls that wait.
+use crate::line::least;
 use blocking::Ran;
 use blocking::master::read;
 use blocking::master::write;
@@ -10,23 +11,26 @@ use blocking::slave::slave_write;
 use parked::Parked;
 use script::calls::*;
 
-// A call begun, or the parked one resumed, with the slices that it has from now on.
+// A call begun, or the parked one resumed, with the slices that it has from now on: of `recv` so many places.
 pub(crate) fn run_call(
     parked: Parked,
     call: Call,
     address: u8,
     send: &[u8],
     recv: &mut [u8],
+    received: usize,
     words: &[u32],
     log: &mut [u32],
 ) -> Ran {
+    let end = least(received, recv.len());
+    let lent = &mut recv[0..end];
     match call {
         BL_WRITE => write(address, send, words, log),
-        BL_READ => read(address, recv, words, log),
-        BL_WRITE_READ => write_read(address, send, recv, words, log),
+        BL_READ => read(address, lent, words, log),
+        BL_WRITE_READ => write_read(address, send, lent, words, log),
         BL_SLAVE_WRITE => slave_write(send, words, log),
-        BL_SLAVE_READ => slave_read(recv, words, log),
+        BL_SLAVE_READ => slave_read(lent, words, log),
         BL_SLAVE_WAIT_ADDRESSED => slave_wait_addressed(words, log),
-        _ => resume(parked, 0, send, recv, words, log),
+        _ => resume(parked, 0, send, lent, words, log),
     }
 }

@@ -1,12 +1,9 @@
 // One line of a script.
 ghost use Prim.Native.Nat.{_≤_};
 use crate::Kept;
-use crate::Log;
 use crate::waiting::play_waiting;
-use playing::play_config;
-use playing::play_link;
-use playing::play_unwaited;
-use print::buffer::Buffer;
+use playing::outcome::Log;
+use playing::outcome::outcome_of;
 use script::Words;
 use script::calls::*;
 use script::parse::parse;
@@ -35,29 +32,7 @@ fn places(slots: &Slots) -> usize {
     number(slots, WORDS) as usize % 0x1_0000 * 4 + 6
 }
 
-// A call of the non-blocking driver.
-fn play_nonblocking(
-    kept: Kept,
-    call: Call,
-    text: &[u8],
-    slots: &Slots,
-    words: &[u32],
-    log: &mut [u32],
-    out: &mut Buffer,
-) -> Kept {
-    let linked = play_link(kept.link, call, text, slots, words, log, out, kept.used);
-    let link = linked.link;
-    let parked = kept.parked;
-    Kept {
-        link,
-        parked,
-        send: kept.send,
-        recv: kept.recv,
-        used: linked.used,
-    }
-}
-
-// A call over the words and the places of the log that its line gives.
+// A line that is parsed: its call over the words and the places of the log that it gives.
 fn play_call(
     kept: Kept,
     call: Call,
@@ -67,47 +42,23 @@ fn play_call(
     log: &mut [u32],
     send: &mut Bytes,
     recv: &mut Bytes,
-    out: &mut Buffer,
 ) -> Kept {
-    let mut next = kept;
+    let given = words_of(words, slots);
+    let room = least(places(slots), log.len());
+    let lent = &mut log[0..room];
     match call {
-        NB_RESET..=NB_SET_ADDRESS => play_nonblocking(kept, call, text, slots, words, log, out),
-        BL_WRITE..=BL_RESUME => play_waiting(kept, call, text, slots, words, log, send, recv, out),
-        BL_NEW..=BL_CLEAR_IRQ => {
-            next.used = play_unwaited(call, slots, words, log, out, kept.used);
-            next
-        }
+        BL_WRITE..=BL_RESUME => play_waiting(kept, call, text, slots, given, lent, send, recv),
         _ => {
-            next.used = play_config(call, slots, out, kept.used);
-            next
+            let before = kept.outcome;
+            let parked = kept.parked;
+            Kept {
+                outcome: outcome_of(before.link, call, text, slots, given, lent),
+                parked,
+                send: kept.send,
+                recv: kept.recv,
+            }
         }
     }
-}
-
-// A line that is parsed.
-fn play_parsed(
-    kept: Kept,
-    call: Call,
-    text: &[u8],
-    slots: &Slots,
-    words: &[u32],
-    log: &mut [u32],
-    send: &mut Bytes,
-    recv: &mut Bytes,
-    out: &mut Buffer,
-) -> Kept {
-    let room = least(places(slots), log.len());
-    play_call(
-        kept,
-        call,
-        text,
-        slots,
-        words_of(words, slots),
-        &mut log[0..room],
-        send,
-        recv,
-        out,
-    )
 }
 
 // A line of so many characters. One that is too long has no part that is a call.
@@ -119,10 +70,9 @@ pub(crate) fn play_line(
     log: &mut Log,
     send: &mut Bytes,
     recv: &mut Bytes,
-    out: &mut Buffer,
 ) -> Kept {
     let mut slots = [0u64; 56];
     let text = part(line, 0, count);
     let call = parse(text, words, &mut slots);
-    play_parsed(kept, call, text, &slots, words, log, send, recv, out)
+    play_call(kept, call, text, &slots, words, log, send, recv)
 }

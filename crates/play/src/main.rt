@@ -6,33 +6,38 @@ use parked::End;
 use parked::Kind;
 use parked::Parked;
 use parked::Phase;
+use playing::outcome::Outcome;
+use playing::outcome::outcome_lines;
+use print::answer::told_bad_line;
 use print::buffer::flush;
-use print::outcome::line_number;
+use script::calls::BAD_LINE;
 use text::input::NO_LINE;
+use text::input::START;
 use text::input::next_line;
 
 mod begun;
 mod line;
 mod waiting;
 
-// A log that a line lends.
-type Log = [u32; 65536];
-
-// What is kept from line to line, beside the two lent slices, send and recv, of these lengths.
+// What is kept from line to line, beside the two lent slices, send and recv, of these lengths: what the line before came to,
+// with its link, and the parked call.
 // A parked call that has ended stands for none begun: both answer 11.
 struct Kept {
-    pub link: Link,
+    pub outcome: Outcome,
     pub parked: Parked,
     pub send: usize,
     pub recv: usize,
-    // How much of the output is still to be written.
-    pub used: usize,
 }
 
 // The link as constructed, and no call begun.
 fn at_first() -> Kept {
     Kept {
-        link: Link::new(),
+        outcome: Outcome {
+            call: BAD_LINE,
+            told: told_bad_line(),
+            logged: 0,
+            link: Link::new(),
+        },
         parked: Parked {
             kind: Kind::Write,
             address: 0,
@@ -43,7 +48,6 @@ fn at_first() -> Kept {
         },
         send: 0,
         recv: 0,
-        used: 0,
     }
 }
 
@@ -56,18 +60,18 @@ fn main() {
     let mut send = [0u8; 16384];
     let mut recv = [0u8; 16384];
     let mut out = io::large_buffer();
-    let mut at: usize = 0;
-    let mut end: usize = 0;
+    let mut used: usize = 0;
+    let mut input = START;
     let mut kept = at_first();
     let mut number: u64 = 1;
     // No script has as many lines.
     while number < 18_446_744_073_709_551_615 {
-        let count = next_line(&mut buffer, &mut at, &mut end, &mut line);
+        input = next_line(&mut buffer, input, &mut line);
+        let count = input.count;
         if count == NO_LINE {
             break;
         }
         if 0 < count {
-            kept.used = line_number(&mut out, kept.used, number);
             kept = play_line(
                 kept,
                 &line,
@@ -76,10 +80,10 @@ fn main() {
                 &mut log,
                 &mut send,
                 &mut recv,
-                &mut out,
             );
+            used = outcome_lines(&mut out, used, number, kept.outcome, &log, &recv, kept.recv);
         }
         number += 1;
     }
-    flush(&out, kept.used);
+    flush(&out, used);
 }

@@ -5,14 +5,6 @@ use access::refused;
 use answers::Answer;
 use nonblocking::link::Called;
 use nonblocking::link::Link;
-use print::answer::Told;
-use print::answer::accesses;
-use print::answer::told_line;
-use print::buffer::Buffer;
-use print::buffer::byte as print_byte;
-use print::outcome::bytes_line;
-use print::words::decimal;
-use print::words::hex4;
 use script::calls::*;
 use script::parse::bytes_of;
 use script::slots::*;
@@ -88,6 +80,16 @@ fn construct(link: Link, slots: &Slots, words: &[u32], log: &mut [u32]) -> Calle
     }
 }
 
+// The bytes that a line gives.
+fn first(room: &Bytes, count: usize) -> &[u8] {
+    part(room, 0, count)
+}
+
+// The slot of the bytes that a line gives.
+fn given(slots: &Slots) -> usize {
+    if has(slots, DATA) { DATA } else { SEND }
+}
+
 // The calls that take no more than the words, those that make no access, and `nb reset`.
 fn simple(link: Link, call: Call, words: &[u32], log: &mut [u32]) -> Called {
     match call {
@@ -103,8 +105,8 @@ fn simple(link: Link, call: Call, words: &[u32], log: &mut [u32]) -> Called {
     }
 }
 
-// The calls of a master.
-fn master(
+// A call with the bytes that its line gives.
+fn link_call(
     link: Link,
     call: Call,
     slots: &Slots,
@@ -115,82 +117,28 @@ fn master(
     let address = short(slots, ADDRESS_16);
     let length = byte(slots, LENGTH);
     match call {
+        NB_SET => put(set(link, slots, bytes)),
+        NB_NEW => construct(link, slots, words, log),
         NB_MASTER_WRITE => link.master_write(address, bytes, words, log),
         NB_MASTER_WRITE_READ => link.master_write_read(address, bytes, length, words, log),
         NB_MASTER_READ => link.master_read(address, length, words, log),
+        NB_SLAVE_WRITE => link.slave_write(bytes, words, log),
+        NB_SBC => link.slave_sbc(number(slots, SBC) != 0, words, log),
         NB_SET_ADDRESS => link.set_address(address, words, log),
         _ => simple(link, call, words, log),
     }
 }
 
-// A call with the bytes that its line gives, the first ones of `bytes`.
-fn link_call(
-    link: Link,
-    call: Call,
-    slots: &Slots,
-    bytes: &Bytes,
-    count: usize,
-    words: &[u32],
-    log: &mut [u32],
-) -> Called {
-    let given = part(bytes, 0, count);
-    match call {
-        NB_SET => put(set(link, slots, given)),
-        NB_NEW => construct(link, slots, words, log),
-        NB_SLAVE_WRITE => link.slave_write(given, words, log),
-        NB_SBC => link.slave_sbc(number(slots, SBC) != 0, words, log),
-        _ => master(link, call, slots, given, words, log),
-    }
-}
-
-// The slot of the bytes that a line gives.
-fn given(slots: &Slots) -> usize {
-    if has(slots, DATA) { DATA } else { SEND }
-}
-
-fn link_numbers(out: &mut Buffer, used: usize, link: Link) -> usize {
-    let used = hex4(out, used, link.address as u32);
-    let used = decimal(out, used, link.watchdog as u64);
-    let used = decimal(out, used, link.index as u64);
-    let used = decimal(out, used, link.length as u64);
-    let used = decimal(out, used, link.errors as u64);
-    decimal(out, used, link.length_write_read as u64)
-}
-
-// The answer, and the link after the call.
-fn link_lines(out: &mut Buffer, used: usize, answer: Answer, link: Link) -> usize {
-    let data = link.data;
-    let used = told_line(out, used, Told::Answer(answer), &data);
-    let used = print_byte(out, used, b'S');
-    let used = link_numbers(out, used, link);
-    bytes_line(out, used, &data)
-}
-
-// The link after a line, and how much of the output is still to be written.
-pub struct Linked {
-    pub link: Link,
-    pub used: usize,
-}
-
-pub fn play_link(
+// A call with what its line gives.
+pub(crate) fn play_link(
     link: Link,
     call: Call,
     text: &[u8],
     slots: &Slots,
     words: &[u32],
     log: &mut [u32],
-    out: &mut Buffer,
-    used: usize,
-) -> Linked {
-    let mut bytes = [0u8; 16384];
-    let count = bytes_of(text, slots, given(slots), &mut bytes);
-    let called = link_call(link, call, slots, &bytes, count, words, log);
-    let report = called.report;
-    let answer = report.answer;
-    let after = called.link;
-    let used = accesses(out, used, log, report.logged);
-    Linked {
-        link: after,
-        used: link_lines(out, used, answer, after),
-    }
+) -> Called {
+    let mut room = [0u8; 16384];
+    let count = bytes_of(text, slots, given(slots), &mut room);
+    link_call(link, call, slots, first(&room, count), words, log)
 }

@@ -6,8 +6,10 @@ use config::Setting;
 use config::SlaveAddressMask;
 use config::Timing;
 use print::answer::Told;
-use print::answer::told_line;
-use print::buffer::Buffer;
+use print::answer::told_answer;
+use print::answer::told_bad_line;
+use print::answer::told_period;
+use print::answer::told_word;
 use script::calls::*;
 use script::slots::*;
 
@@ -79,12 +81,12 @@ pub(crate) fn is_done(answer: Answer) -> bool {
 fn timing(filtered: Filtered, clock: u32) -> Told {
     let answer = filtered.answer;
     if !is_done(answer) {
-        return Told::Answer(Answer::BadFilter);
+        return told_answer(answer);
     }
     let timing = filtered.config.timing_bits(clock);
     match timing {
-        Timing::Bits(bits) => Told::Word(bits),
-        Timing::NoRate => Told::Answer(Answer::NoRate),
+        Timing::Bits(bits) => told_word(bits),
+        Timing::NoRate => told_answer(Answer::NoRate),
     }
 }
 
@@ -92,23 +94,18 @@ fn timing(filtered: Filtered, clock: u32) -> Told {
 fn filter(filtered: Filtered) -> Told {
     let answer = filtered.answer;
     if !is_done(answer) {
-        return Told::Answer(Answer::BadFilter);
+        return told_answer(answer);
     }
     let config = filtered.config;
-    Told::Word(config.digital_filter as u32)
+    told_word(config.digital_filter as u32)
 }
 
 // A call of the configuration; what is no call at all is told as that.
-fn config_call(call: Call, slots: &Slots) -> Told {
+pub(crate) fn config_call(call: Call, slots: &Slots) -> Told {
     match call {
         CFG_TIMING => timing(configuration(slots), word(slots, CLOCK)),
         CFG_FILTER => filter(config(slots).enable_digital_filter(byte(slots, CYCLES))),
-        CFG_PERIOD => Told::Period(Config::scl_period(word(slots, PERIOD))),
-        _ => Told::BadLine,
+        CFG_PERIOD => told_period(Config::scl_period(word(slots, PERIOD))),
+        _ => told_bad_line(),
     }
-}
-
-// A line of the configuration, or none.
-pub fn play_config(call: Call, slots: &Slots, out: &mut Buffer, used: usize) -> usize {
-    told_line(out, used, config_call(call, slots), &[])
 }

@@ -10,10 +10,6 @@ use never_wait::interrupts::listen;
 use never_wait::interrupts::unlisten;
 use never_wait::slave::slave_addressed;
 use never_wait::slave::slave_sbc;
-use print::answer::Told;
-use print::answer::accesses;
-use print::answer::told_line;
-use print::buffer::Buffer;
 use script::calls::*;
 use script::slots::*;
 
@@ -35,7 +31,7 @@ fn construct(slots: &Slots, words: &[u32], log: &mut [u32]) -> Report {
     refused(answer)
 }
 
-fn unwaited_call(call: Call, slots: &Slots, words: &[u32], log: &mut [u32]) -> Report {
+pub(crate) fn unwaited_call(call: Call, slots: &Slots, words: &[u32], log: &mut [u32]) -> Report {
     match call {
         BL_NEW => construct(slots, words, log),
         BL_SLAVE_ADDRESSED => slave_addressed(words, log),
@@ -44,19 +40,4 @@ fn unwaited_call(call: Call, slots: &Slots, words: &[u32], log: &mut [u32]) -> R
         BL_UNLISTEN => unlisten(event(slots), words, log),
         _ => clear_irq(event(slots), log),
     }
-}
-
-pub fn play_unwaited(
-    call: Call,
-    slots: &Slots,
-    words: &[u32],
-    log: &mut [u32],
-    out: &mut Buffer,
-    used: usize,
-) -> usize {
-    let report = unwaited_call(call, slots, words, log);
-    let answer = report.answer;
-    let used = accesses(out, used, log, report.logged);
-    // No answer here shows bytes.
-    told_line(out, used, Told::Answer(answer), &[])
 }

@@ -1,4 +1,7 @@
 // The lent buffer: `out` holds `used` bytes that are still to be written. What adds to it answers how many it holds then.
+ghost use Prim.Native.Nat.{_≤_};
+use crate::line::Line;
+use crate::line::digit;
 use libc::STDOUT_FILENO;
 
 pub type Buffer = [u8; 65536];
@@ -15,23 +18,70 @@ pub fn flush(out: &Buffer, used: usize) {
     write_first(out, used);
 }
 
-// One byte; a full buffer is written first.
-pub fn byte(out: &mut Buffer, used: usize, byte: u8) -> usize {
-    if used < 65536 {
-        out[used] = byte;
-        return used + 1;
+// Where a line can start: a buffer that has no room for one is written first.
+fn room(out: &Buffer, used: usize) -> usize
+    ensures { λ r. ⌜ r ≤ 65440 ⌝ }
+{
+    if used <= 65440 {
+        return used;
     }
-    io::write_all(STDOUT_FILENO, out);
-    out[0] = byte;
-    1
+    flush(out, used);
+    0
 }
 
-pub(crate) fn text(out: &mut Buffer, used: usize, bytes: &[u8]) -> usize {
-    let mut used = used;
+// What a line has so far.
+fn start(out: &mut Buffer, used: usize, line: Line) -> usize {
+    let bytes = line.bytes;
+    let count = line.used;
+    let at = room(out, used);
     let mut i: usize = 0;
-    while i < bytes.len() {
-        used = byte(out, used, bytes[i]);
+    while i < 96 {
+        if count <= i {
+            break;
+        }
+        out[at + i] = bytes[i];
         i += 1;
     }
-    used
+    at + i
+}
+
+fn newline(out: &mut Buffer, used: usize) -> usize {
+    let at = room(out, used);
+    out[at] = b'\n';
+    at + 1
+}
+
+// The whole of a line.
+pub fn add(out: &mut Buffer, used: usize, line: Line) -> usize {
+    let used = start(out, used, line);
+    newline(out, used)
+}
+
+fn wide(b: u8) -> u32 {
+    b as u32
+}
+
+// The two lowest digits of a number.
+fn pair(out: &mut Buffer, used: usize, n: u32) -> usize {
+    let at = room(out, used);
+    out[at] = digit(n / 0x10);
+    out[at + 1] = digit(n);
+    at + 2
+}
+
+// A line that ends with the first bytes of a slice as hex pairs, `-` for none.
+pub fn bytes_line(out: &mut Buffer, used: usize, line: Line, bytes: &[u8], count: usize) -> usize {
+    if count == 0 {
+        return add(out, used, line.text(b" -"));
+    }
+    let mut used = start(out, used, line.byte(b' '));
+    let mut i: usize = 0;
+    while i < count {
+        if bytes.len() <= i {
+            break;
+        }
+        used = pair(out, used, wide(bytes[i]));
+        i += 1;
+    }
+    newline(out, used)
 }

@@ -1,5 +1,4 @@
-// What the programs print, by way of a buffer that is lent: accesses and answers as lines, numbers, bytes as hex pairs.
+// What the programs print: a short line is made by value, and added to a lent buffer; bytes go there as hex pairs.
 pub mod answer;
 pub mod buffer;
-pub mod outcome;
-pub mod words;
+pub mod line;

@@ -60,9 +60,3 @@ module _ (s : List ℕ) (p : Parked) (b ws : List ℕ) (n : ℕ) where
   pub outcome-right : wrong p (length s) (length b) ≡ false → outcome s n p b ws ≡ runs s n p b ws
   unfolding outcome
   outcome-right e = rw e
-
--- inside a list the default does not matter
-pub getD-default : (l : List ℕ) (i d e : ℕ) → i < length l → getD l i d ≡ getD l i e
-getD-default [] i d e h = absurd (omega arith)
-getD-default (x ∷ l) zero d e h = refl
-getD-default (x ∷ l) (suc i) d e h = getD-default l i d e (le-of-suc-le-suc h)

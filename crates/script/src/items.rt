@@ -3,6 +3,7 @@ use crate::calls::*;
 use crate::slots::*;
 use text::Number;
 use text::OVER;
+use text::bytes::bytes;
 use text::numbers::masked;
 use text::numbers::number;
 use text::tokens::ends;
@@ -122,12 +123,21 @@ fn event(token: &[u8]) -> Number {
     Number::None
 }
 
-// The number that a token is for a slot. Of BYTES it is their place on the line: they are read where they are wanted.
+// The place of BYTES on the line, if they are bytes: they are read again where they are wanted.
+fn placed(slot: usize, token: &[u8], place: usize) -> Number {
+    let mut out = [0u8; 16384];
+    if bytes(token, most(slot), &mut out) == OVER {
+        return Number::None;
+    }
+    Number::Value(place as u64)
+}
+
+// The number that a token is for a slot.
 fn read(slot: usize, token: &[u8], place: usize) -> Number {
     match slot {
         OWN_2 => masked(token),
         EVENT => event(token),
-        DATA | SEND | RECV => Number::Value(place as u64),
+        DATA | SEND | RECV => placed(slot, token, place),
         NONE => Number::None,
         _ => {
             let form = form_of(slot);

@@ -14,18 +14,6 @@ use text::tokens::find;
 use text::tokens::part;
 use text::tokens::skip;
 
-// The word that a token is, into its place.
-fn keep_word(token: &[u8], words: &mut Words, place: usize) -> bool {
-    let Number::Value(word) = number_of(token, 16, 0xFFFF_FFFF) else {
-        return false;
-    };
-    if place < 4096 {
-        words[place] = (word % 0x1_0000_0000) as u32;
-        return true;
-    }
-    false
-}
-
 // The words from a place to the line's end. Answers how many.
 fn keep_words(line: &[u8], from: usize, words: &mut Words) -> usize {
     let mut at = from;
@@ -36,9 +24,13 @@ fn keep_words(line: &[u8], from: usize, words: &mut Words) -> usize {
         if at == start {
             return count;
         }
-        if !keep_word(part(line, start, at), words, count) {
-            return OVER;
+        let Number::Value(word) = number_of(part(line, start, at), 16, 0xFFFF_FFFF) else {
+            break;
+        };
+        if count == 4096 {
+            break;
         }
+        words[count] = (word % 0x1_0000_0000) as u32;
         count += 1;
     }
     OVER
@@ -63,35 +55,13 @@ fn compatible(slots: &Slots) -> bool {
     true
 }
 
-// The most bytes that a slot can have.
-fn most(slot: usize) -> u64 {
-    if slot == DATA { 255 } else { 16_384 }
-}
-
-// The bytes that a line gives for a slot, into the array. Answers how many, or `OVER` where they are no bytes.
+// The bytes that a line gives for a slot, into the array. Answers how many.
 pub fn bytes_of(line: &[u8], slots: &Slots, slot: usize, out: &mut Bytes) -> usize {
     if has(slots, slot) {
         let start = number(slots, slot) as usize;
         return bytes(part(line, start, find(line, b' ', start)), most(slot), out);
     }
     0
-}
-
-fn are_bytes(line: &[u8], slots: &Slots, slot: usize) -> bool {
-    let mut out = [0u8; 16384];
-    bytes_of(line, slots, slot, &mut out) != OVER
-}
-
-// Whether the values that a line gives go together and its BYTES are bytes.
-fn is_sound(line: &[u8], slots: &Slots) -> bool {
-    if are_bytes(line, slots, DATA) {
-        if are_bytes(line, slots, SEND) {
-            if are_bytes(line, slots, RECV) {
-                return compatible(slots);
-            }
-        }
-    }
-    false
 }
 
 // The call of a line. Its numbers go into the slots, which hold none, its words into the lent array.
@@ -110,9 +80,5 @@ pub fn parse(line: &[u8], words: &mut Words, slots: &mut Slots) -> Call {
         return BAD_LINE;
     }
     slots[WORDS] = count as u64;
-    if is_sound(line, slots) {
-        call
-    } else {
-        BAD_LINE
-    }
+    if compatible(slots) { call } else { BAD_LINE }
 }

@@ -63,6 +63,11 @@ pub const WORDS: usize = 27;
 
 pub const NONE: usize = 28;
 
+// The most bytes that a slot can have.
+pub(crate) fn most(slot: usize) -> u64 {
+    if slot == DATA { 255 } else { 16_384 }
+}
+
 // 0 where nothing was given.
 pub fn number(slots: &Slots, slot: usize) -> u64 {
     if slot < 28 { slots[slot] } else { 0 }

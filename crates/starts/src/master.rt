@@ -10,13 +10,12 @@ ghost use Rattle.ending.specs.Plan.{writeStart, readStart};
 ghost use Rattle.ending.specs.Outcome.{settled, Matches};
 use crate::bytes::clear;
 use crate::bytes::copy_in;
+use crate::opening::write_opened;
 use crate::reading::read_opened;
 use access::Report;
-use access::refused;
-use answers::Answer;
+use errors::impossible_link;
+use limits::impossible;
 use limits::length_allowed;
-use openings::impossible;
-use openings::write_opened;
 
 // A write over a link's fields, lent one by one. Without `autoend` a read of `read_len` bytes follows it.
 pub fn write_fields(
@@ -39,7 +38,7 @@ pub fn write_fields(
         (linkAt (now (address .exit)) (now (watchdog .exit)) (now (index .exit)) (now (length .exit)) e (now («length_write_read» .exit)) (now («data» .exit))) (now (log .entry)) (now (log .exit))) ⌝ }
 {
     if impossible(*index, *length, *length_write_read, *watchdog) {
-        return refused(Answer::ImpossibleLink);
+        return impossible_link();
     }
     let n = bytes.len();
     let report = write_opened(addr, n, length_allowed(n), autoend, words, log);
@@ -74,7 +73,7 @@ pub fn read_fields(
         (linkAt (now (address .exit)) (now (watchdog .exit)) (now (index .exit)) (now (length .exit)) e «length_write_read» (now («data» .exit))) (now (log .entry)) (now (log .exit))) ⌝ }
 {
     if impossible(*index, *length, length_write_read, *watchdog) {
-        return refused(Answer::ImpossibleLink);
+        return impossible_link();
     }
     let n = read_len as usize;
     let report = read_opened(addr, n, words, log);

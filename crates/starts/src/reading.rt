@@ -8,11 +8,11 @@ ghost use Rattle.layout.specs.Words.{starting, started, sadd16};
 ghost use Rattle.access.specs.Access.{read, write, settled, Reported};
 ghost use Rattle.ending.specs.Link.{Link};
 ghost use Rattle.ending.specs.Plan.{onStart};
+use crate::opening::looked;
 use access::Report;
-use access::accessed;
-use access::refused;
+use access::settle;
 use answers::Answer;
-use openings::looked;
+use errors::out_of_words;
 use registers::cr2::Cr2;
 use registers::data::Rxdr;
 
@@ -22,14 +22,14 @@ pub(crate) fn read_opened(addr: u16, nbytes: usize, words: &[u32], log: &mut [u3
         (onStart (starting (getD (now (words .entry)) 0 0)) true (getD (now (words .entry)) 0 0) (read RXDR (getD (now (words .entry)) 1 0) ∷ read CR2 (getD (now (words .entry)) 2 0) ∷ write CR2 (started (getD (now (words .entry)) 2 0) (sadd16 addr) nbytes true true) ∷ []) l l′ .accesses) (size (now (words .entry))) (size (now (log .entry)))) (now (log .entry)) r (now (log .exit))) ⌝ }
 {
     if words.len() < 1 {
-        return refused(Answer::OutOfWords);
+        return out_of_words();
     }
     let busy = words[0];
     if Cr2::starting(busy) {
         return looked(Answer::Pending, words, log);
     }
     if words.len() < 3 {
-        return refused(Answer::OutOfWords);
+        return out_of_words();
     }
     let cr2 = words[2];
     let entries = [
@@ -42,5 +42,5 @@ pub(crate) fn read_opened(addr: u16, nbytes: usize, words: &[u32], log: &mut [u3
         Cr2::WRITE,
         Cr2::started(cr2, Cr2::sadd16(addr), nbytes, true, true),
     ];
-    accessed(Answer::Done, 3, &entries, log)
+    settle(Answer::Done, 3, &entries, words, log)
 }

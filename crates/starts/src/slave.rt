@@ -10,8 +10,9 @@ use crate::offering::slave_opened;
 use access::Report;
 use access::refused;
 use answers::Answer;
+use errors::impossible_link;
+use limits::impossible;
 use limits::length_allowed;
-use openings::impossible;
 
 // `slave_write` over a link's fields, lent one by one.
 pub fn slave_write_fields(
@@ -28,7 +29,7 @@ pub fn slave_write_fields(
         (linkAt a watchdog (now (index .exit)) (now (length .exit)) e «length_write_read» (now («data» .exit))) (now (log .entry)) (now (log .exit))) ⌝ }
 {
     if impossible(*index, *length, length_write_read, watchdog) {
-        return refused(Answer::ImpossibleLink);
+        return impossible_link();
     }
     let n = bytes.len();
     if length_allowed(n) {

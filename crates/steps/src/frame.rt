@@ -12,11 +12,12 @@ ghost use Rattle.ending.specs.Link.{Link, linkAt};
 ghost use Rattle.ending.specs.Plan.{after, onTcAt, raised};
 ghost use Rattle.ending.specs.Arms.{Arm, Tried};
 use access::Report;
-use access::refused;
 use access::settle;
 use access::word_at;
 use answers::Answer;
+use errors::log_full;
 use errors::one_more;
+use errors::out_of_words;
 use flags::Flag;
 use flags::Isr;
 use registers::cr2::Cr2;
@@ -84,10 +85,10 @@ fn second_half(
         (linkAt address w (now (index .exit)) (now (length .exit)) e (now («length_write_read» .exit)) d) r (now (log .entry)) (now (log .exit))) ⌝ }
 {
     if words.len() < 1 {
-        return refused(Answer::OutOfWords);
+        return out_of_words();
     }
     if log.len() < 4 {
-        return refused(Answer::LogFull);
+        return log_full();
     }
     log[0] = Isr::READ;
     log[1] = words[0];

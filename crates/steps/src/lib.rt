@@ -1,20 +1,48 @@
-// The other steps of a check, one for each flag. A step takes only what it changes; where its accesses are refused it changes nothing.
+// The steps of a check, one for each flag. A step takes only what it changes; where its accesses are refused it changes nothing.
 ghost use mathlib.Core.Path.{_≡_};
 ghost use Prim.Native.Nat.{ℕ};
-ghost use mathlib.Core.List.{List};
+ghost use mathlib.Core.List.{List, [], _∷_};
+ghost use lib.ListN.{length, getD};
+ghost use Rattle.access.specs.Access.{settle, Reported};
+ghost use Rattle.answers.specs.Answers.{said};
 ghost use Rattle.ending.specs.Link.{Link, linkAt};
 ghost use Rattle.ending.specs.Arms.{Arm};
 use access::Report;
+use access::settle;
+use access::word_at;
 use answers::Answer;
 use errors::one_more;
 use flags::Flag;
 use flags::Icr;
 use flags::Isr;
-use transfer::answered;
 
 pub mod addressed;
 pub mod frame;
 pub mod received;
+pub mod sent;
+
+// ISR was read, and one more register is read or written.
+pub fn answered(
+    answer: Answer,
+    reads: usize,
+    register: u32,
+    word: u32,
+    words: &[u32],
+    log: &mut [u32],
+) -> Report
+    ensures { λ r. ⌜ Reported (settle (said answer) reads (0x18 ∷ getD (now (words .entry)) 0 0 ∷ register ∷ word ∷ []) (length (now (words .entry))) (length (now (log .entry)))) (now (log .entry)) r (now (log .exit)) ⌝ }
+{
+    let entries = [Isr::READ, word_at(words, 0), register, word];
+    settle(answer, reads, &entries, words, log)
+}
+
+// ISR was read and nothing follows.
+pub fn on_nothing(words: &[u32], log: &mut [u32]) -> Report
+    ensures { λ r. ⌜ ((l : Link) → Arm Flag.Nothing (now (words .entry)) l l r (now (log .entry)) (now (log .exit))) ⌝ }
+{
+    let entries = [Isr::READ, word_at(words, 0)];
+    settle(Answer::Pending, 1, &entries, words, log)
+}
 
 pub fn on_berr(errors: &mut u32, words: &[u32], log: &mut [u32]) -> Report
     ensures { λ r. ⌜ ((a w i n h : ℕ) (d : List ℕ) → Arm Flag.Berr (now (words .entry)) (linkAt a w i n (now (errors .entry)) h d) (linkAt a w i n (now (errors .exit)) h d) r (now (log .entry)) (now (log .exit))) ⌝ }

@@ -7,6 +7,7 @@ ghost use Rattle.access.specs.Access.{settle, Reported};
 ghost use Rattle.answers.specs.Answers.{said};
 ghost use Rattle.ending.specs.Link.{linkAt};
 ghost use Rattle.ending.specs.Arms.{Arm};
+use crate::answered;
 use access::Report;
 use access::settle;
 use access::word_at;
@@ -14,7 +15,6 @@ use answers::Answer;
 use flags::Flag;
 use flags::Isr;
 use registers::data::Rxdr;
-use transfer::answered;
 
 // A byte came in. With a full index RXDR is read anyway, if RXNE is still set, to clear the flag.
 pub fn on_rxne(

@@ -22,7 +22,7 @@ use Rattle.parked.proofs.Phases.{atPhase, after-wait, after-byte}
 use Rattle.stretches.specs.declared.Moved.{Moved}
 use Rattle.stretches.specs.Stretches.{Carried, Sends, Receives, waiting}
 use Rattle.stretches.proofs.Carries.{carried-on}
-use Rattle.runs.proofs.OneAccess.{getD-default}
+use Rattle.slices.proofs.Places.{getD-default}
 use Rattle.runs.proofs.Phased.{next-wait, next-in, next-out, more-in, more-out, wanted-in, wanted-out, found-byte}
 use Rattle.stretches.proofs.Accesses.{on, reads, writes}
 

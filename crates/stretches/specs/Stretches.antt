@@ -1,15 +1,9 @@
 -- How a stretch of accesses carries a run on, and what the bytes of a stretch promise.
 use Prim.Native.Nat.{ℕ, _+_, _-_, _/_, _≤_, _<_}
 use mathlib.Core.Path.{_≡_}
-use mathlib.Core.Bool.{Bool, true, false, cond}
-use mathlib.Core.List.{List, [], _∷_}
-use lib.Dec.{leb}
+use mathlib.Core.Bool.{true, false}
+use mathlib.Core.List.{List}
 use lib.ListN.{length, take, drop}
-use lib.Seq.{sets}
-use Rattle.layout.specs.Layout.{ISR, offset}
-use Rattle.wanted.specs.declared.Wanted.{Wanted}
-use Rattle.wanted.specs.declared.Found.the-variants.{Nothing as NoFlag}
-use Rattle.wanted.specs.Found.{foundIn}
 use Rattle.phases.specs.declared.Phase.the-variants.{Wait}
 use Rattle.phases.specs.Kinds.{incoming}
 use Rattle.parked.specs.declared.Parked.{Parked}
@@ -17,13 +11,6 @@ use Rattle.runs.specs.Run.{joined, runs}
 use Rattle.stretches.specs.declared.Turn.the-variants.{Again}
 use Rattle.stretches.specs.declared.Progress.{Progress}
 use Rattle.stretches.specs.declared.Moved.{Moved}
-use Rattle.stretches.specs.declared.Brought.{Brought}
-use Rattle.stretches.specs.declared.Brought.the-variants.{Byte, Nothing, Else}
-
--- the log after entries were to be written from a place on: all of them, or none where they do not fit
-pub record Put (entries before : List ℕ) (at : ℕ) (fits : Bool) (after : List ℕ) : Type 0 where
-  pub room : fits ≡ leb (at + length entries) (length before)
-  pub log : after ≡ cond fits (sets before at entries) before
 
 -- a run over `ws` with the log `start` has taken words and logged accesses, and goes on from a call and a buffer
 pub record Going (s ws start : List ℕ) (p₀ : Parked) (b₀ : List ℕ) (log : List ℕ) (p : Parked) (b : List ℕ) (taken logged : ℕ) : Type 0 where
@@ -48,12 +35,6 @@ waiting p m = record {
   taken = m .taken;
   logged = m .logged;
 }
-
--- a word of ISR has the wanted flag, and the byte's access follows it in the log; or it has no flag; or nothing was done
-abbrev pub Polled : Brought → Bool → ℕ → Wanted → ℕ → ℕ → ℕ → List ℕ → List ℕ → Type 0
-Polled Byte set isr wanted number word g log log′ = (set ≡ true) × (g + 4 ≤ length log) × (log′ ≡ sets log g (offset ISR ∷ isr ∷ number ∷ word ∷ []))
-Polled Nothing set isr wanted number word g log log′ = (foundIn isr wanted ≡ NoFlag) × (g + 2 ≤ length log) × (log′ ≡ sets log g (offset ISR ∷ isr ∷ []))
-Polled Else set isr wanted number word g log log′ = log′ ≡ log
 
 -- bytes went out; nothing is done unless a word, and room for its access, is left
 pub record Sends (s ws log : List ℕ) (m : Moved) (log′ : List ℕ) (r : Moved) : Type 0 where

@@ -2,14 +2,13 @@
 ghost use Prim.Native.Nat.{_<_};
 ghost use mathlib.Core.Path.{_≡_};
 ghost use mathlib.Core.Bool.{true};
-ghost use Rattle.stretches.specs.Stretches.{Polled, Sends, Receives};
-use crate::Brought;
+ghost use Rattle.stretches.specs.Stretches.{Sends, Receives};
 use crate::Moved;
-use crate::put_at;
 use flags::Isr;
+use polls::Brought;
+use polls::polled;
 use registers::data::Rxdr;
 use registers::data::Txdr;
-use wanted::Found;
 use wanted::Wanted;
 
 // Whether a byte and a word are left.
@@ -20,34 +19,6 @@ fn left(count: usize, bytes: usize, taken: usize, words: usize) -> bool
         return false;
     }
     taken < words
-}
-
-// A word of ISR: with the wanted flag the byte's access follows, by its number and word; with no flag the wait goes on.
-fn polled(
-    set: bool,
-    isr: u32,
-    wanted: Wanted,
-    number: u32,
-    word: u32,
-    logged: usize,
-    log: &mut [u32],
-) -> Brought
-    ensures { λ r. ⌜ Polled r set isr wanted number word logged (now (log .entry)) (now (log .exit)) ⌝ }
-{
-    if set {
-        if put_at(log, logged, &[Isr::READ, isr, number, word]) {
-            return Brought::Byte;
-        }
-        return Brought::Else;
-    }
-    let found = wanted.found_in(isr);
-    if let Found::Nothing = found {
-        if put_at(log, logged, &[Isr::READ, isr]) {
-            return Brought::Nothing;
-        }
-        return Brought::Else;
-    }
-    Brought::Else
 }
 
 // Bytes go out while one is left.

@@ -1,47 +1,30 @@
 // Lines of standard input.
 use crate::Text;
 
-const NEWLINE: u32 = 10;
-
-// What `next_byte` answers at the input's end.
-const NO_BYTE: u32 = 256;
-
-fn wide(b: u8) -> u32 {
-    b as u32
+// A place in the input: the byte of the buffer that comes next, how many bytes the buffer holds, and of the line that was
+// read last the number of its characters.
+pub struct Input {
+    pub at: usize,
+    pub end: usize,
+    pub count: usize,
 }
 
-// The next byte; the buffer is filled again when it is used up.
-fn next_byte(buffer: &mut [u8; 4096], at: &mut usize, end: &mut usize) -> u32 {
-    let mut i = *at;
-    let mut n = *end;
-    if n <= i {
-        let got = libc::read(0, buffer);
-        n = io::count(got, buffer);
-        *end = n;
-        i = 0;
-    }
-    if i < n {
-        if i < 4096 {
-            *at = i + 1;
-            return wide(buffer[i]);
-        }
-    }
-    *at = i;
-    NO_BYTE
-}
+// The input's start.
+pub const START: Input = Input {
+    at: 0,
+    end: 0,
+    count: 0,
+};
 
-// What `next_line` answers for a line of more characters than one may have, and at the input's end.
+// What counts as the number of characters where there are more than a line may have, and at the input's end.
 const TOO_LONG: usize = 32_769;
 
 pub const NO_LINE: usize = 32_770;
 
-// Adds a byte to the line. Answers how many it has now.
-fn add(line: &mut Text, count: usize, byte: u32) -> usize {
-    if count < 32_768 {
-        line[count] = (byte % 0x100) as u8;
-        return count + 1;
-    }
-    TOO_LONG
+// How many bytes the buffer holds once it is filled again.
+fn fill(buffer: &mut [u8; 4096]) -> usize {
+    let got = libc::read(0, buffer);
+    io::count(got, buffer)
 }
 
 // A comment counts as a line of no characters.
@@ -49,30 +32,46 @@ fn counted(line: &Text, count: usize) -> usize {
     if line[0] == b'#' { 0 } else { count }
 }
 
-// The next line, as the number of its characters, without the newline. The rest of one that is too long is passed over.
-pub fn next_line(
-    buffer: &mut [u8; 4096],
-    at: &mut usize,
-    end: &mut usize,
-    line: &mut Text,
-) -> usize {
+// The next line, without the newline. The rest of one that is too long is passed over.
+pub fn next_line(buffer: &mut [u8; 4096], input: Input, line: &mut Text) -> Input {
+    let mut at = input.at;
+    let mut end = input.end;
     let mut count: usize = 0;
     // No line is as long as this.
     let mut turns: u64 = 18_446_744_073_709_551_615;
     while 0 < turns {
-        let byte = next_byte(buffer, at, end);
-        if byte == NO_BYTE {
-            // Nothing at all is no line.
-            if count == 0 {
-                return NO_LINE;
+        if end <= at {
+            at = 0;
+            end = fill(buffer);
+            if end == 0 {
+                // Nothing at all is no line.
+                if count == 0 {
+                    return Input {
+                        at,
+                        end,
+                        count: NO_LINE,
+                    };
+                }
+                break;
             }
-            return counted(line, count);
         }
-        if byte == NEWLINE {
-            return counted(line, count);
+        // No place of the buffer is above the last.
+        let byte = buffer[at % 4096];
+        at = at % 4096 + 1;
+        if byte == b'\n' {
+            break;
         }
-        count = add(line, count, byte);
+        if count < 32_768 {
+            line[count] = byte;
+            count += 1;
+        } else {
+            count = TOO_LONG;
+        }
         turns -= 1;
     }
-    NO_LINE
+    Input {
+        at,
+        end,
+        count: counted(line, count),
+    }
 }

@@ -5,8 +5,8 @@ use parked::End;
 use parked::Next;
 use parked::Parked;
 use parked::Phase;
-use runs::byte_at;
-use runs::keep_byte;
+use slices::byte_at;
+use slices::keep_byte;
 use stretches::Progress;
 use stretches::Turn;
 

@@ -1,17 +1,17 @@
 // The words that are read ahead.
 use text::Number;
 use text::Text;
-use text::input::NO_LINE;
+use text::input::Input;
 use text::input::next_line;
 use text::numbers::number;
 use text::tokens::part;
 
-// At most three: a call takes no more. `open` while no other line has come, `more` while the input has not ended.
+// At most three: a call takes no more. `open` while no other line has come; `input` is where the next line is.
 pub(crate) struct Ahead {
     pub words: [u32; 3],
     pub count: usize,
     pub open: bool,
-    pub more: bool,
+    pub input: Input,
 }
 
 // What a line of so many characters is: a word is eight hex digits, in either case.
@@ -33,35 +33,22 @@ fn with_word(ahead: Ahead, word: u64) -> Ahead {
     next
 }
 
-// One line more. The last one may lack its end.
-fn with_line(
-    ahead: Ahead,
-    buffer: &mut [u8; 4096],
-    at: &mut usize,
-    end: &mut usize,
-    line: &mut Text,
-) -> Ahead {
-    let count = next_line(buffer, at, end, line);
-    let found = line_word(line, count);
+// One line more, which is a word or ends them.
+fn with_line(ahead: Ahead, line: &Text, input: Input) -> Ahead {
+    let mut next = ahead;
+    next.input = input;
+    let found = line_word(line, input.count);
     match found {
-        Number::Value(word) => with_word(ahead, word),
+        Number::Value(word) => with_word(next, word),
         Number::None => {
-            let mut next = ahead;
             next.open = false;
-            next.more = count != NO_LINE;
             next
         }
     }
 }
 
 // Reads ahead until there are three words or another line has come.
-pub(crate) fn fill(
-    ahead: Ahead,
-    buffer: &mut [u8; 4096],
-    at: &mut usize,
-    end: &mut usize,
-    line: &mut Text,
-) -> Ahead {
+pub(crate) fn fill(ahead: Ahead, buffer: &mut [u8; 4096], line: &mut Text) -> Ahead {
     let mut next = ahead;
     let mut turns: usize = 3;
     while 0 < turns {
@@ -71,7 +58,8 @@ pub(crate) fn fill(
         if !next.open {
             return next;
         }
-        next = with_line(next, buffer, at, end, line);
+        let input = next_line(buffer, next.input, line);
+        next = with_line(next, line, input);
         turns -= 1;
     }
     next
@@ -90,10 +78,8 @@ pub(crate) fn without(ahead: Ahead, taken: usize) -> Ahead {
         2 => [words[2], 0, 0],
         _ => [0, 0, 0],
     };
-    Ahead {
-        words: left,
-        count: count - taken,
-        open: ahead.open,
-        more: ahead.more,
-    }
+    let mut next = ahead;
+    next.words = left;
+    next.count = count - taken;
+    next
 }

@@ -6,11 +6,12 @@ use crate::ahead::without;
 use answers::Answer;
 use nonblocking::link::Called;
 use nonblocking::link::Link;
-use print::answer::Told;
 use print::answer::accesses;
+use print::answer::told_answer;
 use print::answer::told_line;
 use print::buffer::Buffer;
 use print::buffer::flush;
+use text::input::Input;
 
 // What a call comes to, once it is printed: the link after it, the words that it took, whether it lacked one, and the output that is still to be written.
 struct Walked {
@@ -38,7 +39,7 @@ fn printed(called: Called, log: &[u32; 10], out: &mut Buffer, used: usize) -> Wa
         link,
         taken: report.taken,
         lacking: lacks_words(answer),
-        used: told_line(out, used, Told::Answer(answer), &data),
+        used: told_line(out, used, told_answer(answer), &data),
     }
 }
 
@@ -72,15 +73,15 @@ fn step(
     printed(called, &log, out, used)
 }
 
-// One walk, from the input's next byte on. Answers whether a line ended it, so that more may follow.
-pub fn run(buffer: &mut [u8; 4096], at: &mut usize, end: &mut usize) -> bool {
+// One walk, from a place of the input on. Answers the place after it.
+pub fn run(buffer: &mut [u8; 4096], input: Input) -> Input {
     let mut line = [0u8; 32768];
     let mut out = io::large_buffer();
     let mut ahead = Ahead {
         words: [0u32; 3],
         count: 0,
         open: true,
-        more: true,
+        input,
     };
     let mut walked = Walked {
         link: Link::new(),
@@ -91,7 +92,7 @@ pub fn run(buffer: &mut [u8; 4096], at: &mut usize, end: &mut usize) -> bool {
     let mut calls: u64 = 0;
     // No input is as long as this.
     while calls < 18_446_744_073_709_551_615 {
-        ahead = fill(without(ahead, walked.taken), buffer, at, end, &mut line);
+        ahead = fill(without(ahead, walked.taken), buffer, &mut line);
         if ahead.count == 0 {
             if 0 < calls {
                 break;
@@ -112,5 +113,5 @@ pub fn run(buffer: &mut [u8; 4096], at: &mut usize, end: &mut usize) -> bool {
         calls += 1;
     }
     flush(&out, walked.used);
-    ahead.more
+    ahead.input
 }

@@ -16,7 +16,7 @@ returns : tie.Need-returns
 returns c =
     let x = c .before .before .before .before .before .before .before .before .before .args in
     let l = linkAt (x .address .now) (x .watchdog .now) (x .index .now) (x .length .now) (x .errors .now) (x .length-write-read .now) (x .«data» .now) in
-    outcome-12 checkIsrFlags (x .words .now) l (sym (c .before .before .impossible .ensures) ∙ c .before .if1 .taken) (c .refused .ensures)
+    outcome-12 checkIsrFlags (x .words .now) l (sym (c .before .before .impossible .ensures) ∙ c .before .if1 .taken) (c .impossible-link .ensures)
 
 cast-on-txis : tie.Need-cast-on-txis
 cast-on-txis c =
@@ -72,4 +72,4 @@ returns-7 c =
     (rw (itself (c .before .before .before .before .before .before .taken-as .result) (c .before .before .before .before .before .match .keys6)) at (c .before .before .on-rest .ensures (x .address .now) (x .watchdog .now) (x .index .now) (x .length .now) (x .length-write-read .now) (x .«data» .now)))
 
 pub check-fields-spec : {M : Type 1} → statement M
-check-fields-spec = tie.close (tie.spec (λ c κs. tt) (λ c κs. tt) returns (λ c κs. tt) (λ c κs. tt) (λ c. search needs) cast-on-txis (λ c κs. tt) (λ c. search needs) cast-on-rxne (λ c κs. tt) (λ c. search needs) (λ c κs. tt) (λ c. search needs) (λ c κs. tt) (λ c. search needs) (λ c κs. tt) (λ c κs. tt) (λ c. search needs) returns-2 (λ c. search needs) returns-3 (λ c. search needs) returns-4 (λ c. search needs) returns-5 (λ c. search needs) returns-6 (λ c. search needs) returns-7)
+check-fields-spec = tie.close (tie.spec (λ c κs. tt) (λ c κs. tt) returns (λ c κs. tt) (λ c κs. tt) (λ c. search needs) cast-on-txis (λ c κs. tt) (λ c. search needs) returns-2 (λ c. search needs) cast-on-rxne (λ c κs. tt) (λ c. search needs) returns-3 (λ c. search needs) (λ c κs. tt) (λ c. search needs) returns-4 (λ c. search needs) (λ c κs. tt) (λ c. search needs) returns-5 (λ c. search needs) (λ c κs. tt) (λ c. search needs) returns-6 (λ c κs. tt) (λ c. search needs) returns-7)

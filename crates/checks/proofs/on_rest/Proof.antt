@@ -22,4 +22,4 @@ returns-5 : tie.Need-returns-5
 returns-5 c = λ a w i n h d. rw (none (c .before .before .before .before .before .before .before .args .flag) (c .before .before .before .before .match .keys5)) (c .before .before .on-nothing .ensures (linkAt a w i n (c .before .before .before .before .before .before .before .args .errors .now) h d))
 
 pub on-rest-spec : {M : Type 1} → statement M
-on-rest-spec = tie.close (tie.spec (λ c. search needs) (λ c κs. tt) (λ c. search needs) (λ c κs. tt) (λ c. search needs) (λ c κs. tt) (λ c. search needs) (λ c κs. tt) (λ c κs. tt) (λ c. search needs) returns (λ c. search needs) returns-2 (λ c. search needs) returns-3 (λ c. search needs) returns-4 (λ c. search needs) returns-5)
+on-rest-spec = tie.close (tie.spec (λ c. search needs) (λ c κs. tt) (λ c. search needs) returns (λ c. search needs) (λ c κs. tt) (λ c. search needs) returns-2 (λ c. search needs) (λ c κs. tt) (λ c. search needs) returns-3 (λ c. search needs) (λ c κs. tt) (λ c. search needs) returns-4 (λ c κs. tt) (λ c. search needs) returns-5)

@@ -5,10 +5,10 @@ use Rattle.walk_cases.proofs.main.Statement.{statement}
 use Rattle.walk_cases.proofs.main.Tie as tie
 
 abbrev Inv-loop : tie.InvT-loop
-Inv-loop buffer₀ at₀ end₀ turns₀ t5 buffer at end turns = 0 ≤ turns
+Inv-loop buffer₀ input₀ turns₀ t4 buffer input turns = 0 ≤ turns
 
 abbrev μ-loop : tie.MeasureT-loop
-μ-loop buffer₀ at₀ end₀ turns₀ t5 buffer at end turns = turns
+μ-loop buffer₀ input₀ turns₀ t4 buffer input turns = turns
 
 pub main-spec : {M : Type 1} → statement M
 main-spec =

@@ -22,7 +22,7 @@ returns c =
     let x = c .before .before .before .before .before .before .args in
     let ws = x .words .now in
     let l = linkAt a (x .watchdog .now) (x .index) (x .length) (x .errors .now) (x .length-write-read) d in
-    outcome-12 executeWatchdog ws l (sym (c .before .before .impossible .ensures) ∙ c .before .if1 .taken) (c .refused .ensures)
+    outcome-12 executeWatchdog ws l (sym (c .before .before .impossible .ensures) ∙ c .before .if1 .taken) (c .impossible-link .ensures)
 
 returns-2 : tie.Need-returns-2
 returns-2 c =
@@ -31,7 +31,7 @@ returns-2 c =
     let ws = x .words .now in
     let l = linkAt a (x .watchdog .now) (x .index) (x .length) (x .errors .now) (x .length-write-read) d in
     outcome-of executeWatchdog ws l (sym (c .before .before .before .impossible .ensures) ∙ c .before .before .if1 .left)
-    (rw (eq-eqb (x .watchdog .now) 0 (c .before .if2 .taken), c .refused2 .ensures) (bare (says 0 []) [] ws l l refl refl refl refl))
+    (rw (eq-eqb (x .watchdog .now) 0 (c .before .if2 .taken), c .nothing-done .ensures) (bare (says 0 []) [] ws l l refl refl refl refl))
 
 returns-3 : tie.Need-returns-3
 returns-3 c =
@@ -58,7 +58,7 @@ returns-5 c =
     let ws = x .words .now in
     let l = linkAt a (x .watchdog .now) (x .index) (x .length) (x .errors .now) (x .length-write-read) d in
     outcome-of executeWatchdog ws l (sym (c .before .before .before .before .impossible .ensures) ∙ c .before .before .before .if1 .left)
-    (rw (ne-eqb (x .watchdog .now) 0 (c .before .before .if2 .left), ne-eqb (x .watchdog .now) 1 (c .before .if3 .left), c .refused3 .ensures) (bare (says 0 []) [] ws l (changed (withWatchdog (x .watchdog .now - 1) (common l)) l) refl refl refl refl))
+    (rw (ne-eqb (x .watchdog .now) 0 (c .before .before .if2 .left), ne-eqb (x .watchdog .now) 1 (c .before .if3 .left), c .nothing-done2 .ensures) (bare (says 0 []) [] ws l (changed (withWatchdog (x .watchdog .now - 1) (common l)) l) refl refl refl refl))
 
 pub watchdog-fields-spec : {M : Type 1} → statement M
 watchdog-fields-spec = tie.close (tie.spec (λ c κs. tt) (λ c κs. tt) returns (λ c κs. tt) returns-2 (λ c κs. tt) (λ c. search needs) returns-3 (λ c κs. tt) (λ c. search needs) returns-4 (λ c. search needs) (λ c κs. tt) returns-5)

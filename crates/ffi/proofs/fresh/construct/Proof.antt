@@ -1,4 +1,4 @@
--- `ffi::fresh::construct` meets its contract: a walk of its MIR, by hand. It lends the link's fields to `construct_fields`, and hands the parameters that follow on as they are (`Thin.antt` of the crate `lent`).
+-- `ffi::fresh::construct` meets its contract: a walk of its MIR, by hand. It lends the link's fields to `construct_fields`, and hands the parameters that follow on as they are (`Thin.antt` of the crate `nonblocking`).
 -- All that the proof knows of `construct_fields` is that it meets its contract.
 use lib.ListN.{length}
 use contract.Lifetimes.{Lfts, Shares}
@@ -14,8 +14,8 @@ use denote.Slice.{slice-vals, shr-slice-tells, mut-slice-tells, shr-slice-lawful
 use denote.Triple.End.{Kepts}
 use Rattle.nonblocking.proofs.Lending.{[], _∷_, List, refl, id⊢, URA, named, SProp, Memory, Routine, Heap, Calls, Loops, Atoms, Fun, FmC, Given, !, RefT, tripleOf, Contract, Triple, ptr-vals, givenOf}
 use Rattle.nonblocking.specs.declared.link.Link.{Link}
-use Rattle.lent.proofs.Loans.{Names, lifetimes, shares, references, pointers}
-use Rattle.lent.proofs.Thin.{others, Whole, Told, Runs, at, enters, thin-walk, thin-closes}
+use Rattle.nonblocking.proofs.Loans.{Names, lifetimes, shares, references, pointers}
+use Rattle.nonblocking.proofs.Thin.{others, Whole, Told, Runs, at, enters, thin-walk, thin-closes}
 use Rattle.ffi.proofs.fresh.construct_fields as callee
 use Rattle.ffi.proofs.fresh.construct_fields.Symbol as symbol
 use Rattle.ffi.proofs.fresh.construct_fields.Met as known

@@ -16,7 +16,7 @@ use denote.Slice.{slice-vals, shr-slice-tells, shr-slice-lawful, mut-slice-tells
 use denote.Array.{Array}
 use denote.Ref.{shr-tells}
 use Rattle.nonblocking.proofs.Lending.{[], _∷_, refl, id⊢, URA, SProp, Memory, Routine, Heap, Calls, Loops, WpFn, Atoms, Fun, FmC, Given, Seq, ‵, raw, !, owns, ptr-vals, mut-tells, named, tripleOf, Contract, Triple, lasts, givenOf}
-use Rattle.lent.proofs.Thin.{enters}
+use Rattle.nonblocking.proofs.Thin.{enters}
 use Rattle.ffi.proofs.Relay.{front, front-share, owned-list, last-list, Put, Numbers, numbers-type, relay-walk, relay-closes}
 use Rattle.nonblocking.proofs.link.Link as L
 use Rattle.nonblocking.proofs.link.Link.Laws as L′

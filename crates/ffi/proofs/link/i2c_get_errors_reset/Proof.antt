@@ -9,7 +9,7 @@ use denote.Signature.{typesAt}
 use denote.Triple.Clauses.{atExit}
 use types.Kit.{Go, prop}
 use Rattle.nonblocking.proofs.Lending.{[], _∷_, refl, id⊢, URA, SProp, Memory, Routine, Heap, Calls, Loops, WpFn, Atoms, Fun, FmC, Given, Seq, ‵, raw, !, owns, ptr-vals, mut-tells, named, tripleOf, Contract, Triple, lasts, givenOf}
-use Rattle.lent.proofs.Thin.{enters}
+use Rattle.nonblocking.proofs.Thin.{enters}
 use Rattle.ffi.proofs.Relay.{front, front-share, owned-list, last-list, Put, Numbers, numbers-type, relay-walk, relay-closes}
 use Rattle.nonblocking.proofs.link.Link as L
 use Rattle.nonblocking.proofs.link.Link.Laws as L′

@@ -4,4 +4,4 @@ use Rattle.flat.proofs.configured.configured.Statement.{statement}
 use Rattle.flat.proofs.configured.configured.Tie as tie
 
 pub configured-spec : {M : Type 1} → statement M
-configured-spec = tie.close (tie.spec (λ c κs. search needs) (λ c. search needs) (λ c. search needs) (λ c. search needs) (λ c. rw (c .mask-of .ensures)))
+configured-spec = tie.close (tie.spec (λ c. search needs) (λ c κs. search needs) (λ c. search needs) (λ c. search needs) (λ c. search needs) (λ c. search needs) (λ c. search needs) (λ c. search needs) (λ c. search needs) (λ c. search needs) (λ c. rw (c .before .before .before .before .before .mask-of .ensures)))

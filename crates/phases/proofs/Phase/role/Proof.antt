@@ -1,7 +1,36 @@
 -- `phases::Phase::role` meets its contract.
+use mathlib.Core.Path.{_≡_, refl}
+use mathlib.Core.List.{[], _∷_}
+use denote.Enum.Declared.{tagOf}
+use types.Run.{OneOf, miss}
 use borrow.Author.Needs.{needs}
+use Rattle.phases.specs.declared.Phase.{Phase}
+use Rattle.phases.specs.declared.Phase.the-variants.{Open, Wait, Transfer, Restart, Stretched, Refuse, ClearBerr, ClearArlo, ClearNackf, ClearStopf, FlushTxis, FlushDummy, FlushTxe, FlushEmpty, Listen, Code, Ended}
+use Rattle.phases.specs.declared.Role.the-variants.{Other}
+use Rattle.phases.specs.Phases.{role}
+use Rattle.phases.proofs.Phase.{the-type}
 use Rattle.phases.proofs.Phase.role.Statement.{statement}
 use Rattle.phases.proofs.Phase.role.Tie as tie
+
+-- the phases of the last arm
+others : (f : Phase) → OneOf (0 ∷ 1 ∷ 4 ∷ 5 ∷ 6 ∷ 7 ∷ 8 ∷ 9 ∷ 10 ∷ 11 ∷ 12 ∷ 13 ∷ 14 ∷ 15 ∷ []) (tagOf the-type f) → Other ≡ role f
+others (Open step) o = refl
+others Wait o = refl
+others Transfer o = absurd (miss (0 ∷ 1 ∷ 4 ∷ 5 ∷ 6 ∷ 7 ∷ 8 ∷ 9 ∷ 10 ∷ 11 ∷ 12 ∷ 13 ∷ 14 ∷ 15 ∷ []) 2 tt o)
+others Restart o = absurd (miss (0 ∷ 1 ∷ 4 ∷ 5 ∷ 6 ∷ 7 ∷ 8 ∷ 9 ∷ 10 ∷ 11 ∷ 12 ∷ 13 ∷ 14 ∷ 15 ∷ []) 3 tt o)
+others Stretched o = refl
+others (Refuse cr2) o = refl
+others ClearBerr o = refl
+others ClearArlo o = refl
+others ClearNackf o = refl
+others ClearStopf o = refl
+others FlushTxis o = refl
+others FlushDummy o = refl
+others FlushTxe o = refl
+others FlushEmpty o = refl
+others Listen o = refl
+others Code o = refl
+others (Ended end) o = absurd (miss (0 ∷ 1 ∷ 4 ∷ 5 ∷ 6 ∷ 7 ∷ 8 ∷ 9 ∷ 10 ∷ 11 ∷ 12 ∷ 13 ∷ 14 ∷ 15 ∷ []) 16 tt o)
 
 returns : tie.Need-returns
 returns c = rw (c .enum-told .given .1)
@@ -13,46 +42,7 @@ returns-3 : tie.Need-returns-3
 returns-3 c = rw (c .enum-told3 .given .1)
 
 returns-4 : tie.Need-returns-4
-returns-4 c = rw (c .enum-told4 .given .1)
-
-returns-5 : tie.Need-returns-5
-returns-5 c = rw (c .enum-told5 .given .1)
-
-returns-6 : tie.Need-returns-6
-returns-6 c = rw (c .enum-told6 .given .1)
-
-returns-7 : tie.Need-returns-7
-returns-7 c = rw (c .enum-told7 .given .1)
-
-returns-8 : tie.Need-returns-8
-returns-8 c = rw (c .enum-told8 .given .1)
-
-returns-9 : tie.Need-returns-9
-returns-9 c = rw (c .enum-told9 .given .1)
-
-returns-10 : tie.Need-returns-10
-returns-10 c = rw (c .enum-told10 .given .1)
-
-returns-11 : tie.Need-returns-11
-returns-11 c = rw (c .enum-told11 .given .1)
-
-returns-12 : tie.Need-returns-12
-returns-12 c = rw (c .enum-told12 .given .1)
-
-returns-13 : tie.Need-returns-13
-returns-13 c = rw (c .enum-told13 .given .1)
-
-returns-14 : tie.Need-returns-14
-returns-14 c = rw (c .enum-told14 .given .1)
-
-returns-15 : tie.Need-returns-15
-returns-15 c = rw (c .enum-told15 .given .1)
-
-returns-16 : tie.Need-returns-16
-returns-16 c = rw (c .enum-told16 .given .1)
-
-returns-17 : tie.Need-returns-17
-returns-17 c = rw (c .enum-told17 .given .1)
+returns-4 c = others (c .before .args .self) (c .match .keys4)
 
 pub role-spec : {M : Type 1} → statement M
-role-spec = tie.close (tie.spec (λ c. search needs) (λ c. search needs) (λ c. search needs) (λ c. search needs) (λ c. search needs) (λ c. search needs) (λ c. search needs) (λ c. search needs) (λ c. search needs) (λ c. search needs) (λ c. search needs) (λ c. search needs) (λ c. search needs) (λ c. search needs) (λ c. search needs) (λ c. search needs) (λ c. search needs) returns returns-2 returns-3 returns-4 returns-5 returns-6 returns-7 returns-8 returns-9 returns-10 returns-11 returns-12 returns-13 returns-14 returns-15 returns-16 returns-17)
+role-spec = tie.close (tie.spec (λ c. search needs) (λ c. search needs) (λ c. search needs) returns returns-2 returns-3 returns-4)

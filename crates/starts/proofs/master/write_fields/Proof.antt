@@ -22,7 +22,7 @@ returns c =
     let x = c .before .before .before .before .before .before .before .before .before .before .args in
     let ws = x .words .now in
     let l = linkAt (x .address .now) (x .watchdog .now) (x .index .now) (x .length .now) e (x .length-write-read .now) (x .«data» .now) in
-    settled-12 (writeStart (x .addr) (x .bytes .now) (x .read-len) (x .autoend) (getD ws 0 0) (getD ws 1 0) l) ws l (sym (c .before .before .impossible .ensures) ∙ c .before .if1 .taken) (c .refused .ensures)
+    settled-12 (writeStart (x .addr) (x .bytes .now) (x .read-len) (x .autoend) (getD ws 0 0) (getD ws 1 0) l) ws l (sym (c .before .before .impossible .ensures) ∙ c .before .if1 .taken) (c .impossible-link .ensures)
 
 returns-2 : tie.Need-returns-2
 returns-2 c =

@@ -20,7 +20,7 @@ returns c =
     let x = c .before .before .before .before .before .before .before .before .args in
     let ws = x .words .now in
     let l = linkAt a (x .watchdog) (x .index .now) (x .length .now) e (x .length-write-read) (x .«data» .now) in
-    outcome-12 (slaveWrite (x .bytes .now)) ws l (sym (c .before .before .impossible .ensures) ∙ c .before .if1 .taken) (c .refused .ensures)
+    outcome-12 (slaveWrite (x .bytes .now)) ws l (sym (c .before .before .impossible .ensures) ∙ c .before .if1 .taken) (c .impossible-link .ensures)
 
 returns-2 : tie.Need-returns-2
 returns-2 c =
@@ -50,7 +50,7 @@ returns-4 c =
     let ws = x .words .now in
     let l = linkAt a (x .watchdog) (x .index .now) (x .length .now) e (x .length-write-read) (x .«data» .now) in
     outcome-of (slaveWrite (x .bytes .now)) ws l (sym (c .before .before .before .before .impossible .ensures) ∙ c .before .before .before .if1 .left)
-    (rw (sym (c .before .before .length-allowed .ensures) ∙ c .before .if2 .left, c .refused2 .ensures) (bare (says 6 []) [] ws l l refl refl refl refl))
+    (rw (sym (c .before .before .length-allowed .ensures) ∙ c .before .if2 .left, c .refused .ensures) (bare (says 6 []) [] ws l l refl refl refl refl))
 
 pub slave-write-fields-spec : {M : Type 1} → statement M
 slave-write-fields-spec = tie.close (tie.spec (λ c κs. tt) (λ c κs. tt) returns (λ c κs. tt) (λ c κs. tt) (λ c. search needs) returns-2 copy-in-requires (λ c. search needs) returns-3 (λ c κs. tt) returns-4)

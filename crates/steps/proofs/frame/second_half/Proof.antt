@@ -9,7 +9,7 @@ use Rattle.access.specs.Access.{read}
 use Rattle.ending.specs.Link.{linkAt}
 use Rattle.ending.specs.Plan.{after, onTcAt}
 use Rattle.ending.proofs.Settling.{short}
-use Rattle.openings.proofs.Stored.{four, second, third, fourth}
+use Rattle.access.proofs.Stored.{four, second, third, fourth}
 use Rattle.steps.proofs.Written.{full, stored}
 use borrow.Author.Needs.{needs}
 use Rattle.steps.proofs.frame.second_half.Statement.{statement}
@@ -21,7 +21,7 @@ returns c =
     let x = c .before .before .before .before .args in
     let ws = x .words .now in
     let l = linkAt (x .address) w (x .index .now) (x .length .now) e (x .length-write-read .now) d in
-    short (after (read ISR (getD ws 0 0)) (onTcAt true i (getD ws 1 0) l)) l ws (c .before .if1 .taken) (c .refused .ensures)
+    short (after (read ISR (getD ws 0 0)) (onTcAt true i (getD ws 1 0) l)) l ws (c .before .if1 .taken) (c .out-of-words .ensures)
 
 returns-2 : tie.Need-returns-2
 returns-2 c =
@@ -29,7 +29,7 @@ returns-2 c =
     let x = c .before .before .before .before .before .args in
     let ws = x .words .now in
     let l = linkAt (x .address) w (x .index .now) (x .length .now) e (x .length-write-read .now) d in
-    full (after (read ISR (getD ws 0 0)) (onTcAt true i (getD ws 1 0) l)) l ws (c .before .before .if1 .left) (c .before .if2 .taken) (c .refused2 .ensures)
+    full (after (read ISR (getD ws 0 0)) (onTcAt true i (getD ws 1 0) l)) l ws (c .before .before .if1 .left) (c .before .if2 .taken) (c .log-full .ensures)
 
 slice-write-log-2 : tie.Need-slice-write-log-2
 slice-write-log-2 c = second 0x18 (c .before .before .before .before .before .args .log .now) (omega (arith, c .before .if2 .left))

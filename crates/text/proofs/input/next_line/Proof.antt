@@ -5,10 +5,10 @@ use Rattle.text.proofs.input.next_line.Statement.{statement}
 use Rattle.text.proofs.input.next_line.Tie as tie
 
 abbrev Inv-loop : tie.InvT-loop
-Inv-loop buffer₀ at₀ end₀ line₀ count₀ turns₀ buffer at end line count turns = 0 ≤ turns
+Inv-loop buffer₀ line₀ at₀ end₀ count₀ turns₀ buffer line at end count turns = 0 ≤ turns
 
 abbrev μ-loop : tie.MeasureT-loop
-μ-loop buffer₀ at₀ end₀ line₀ count₀ turns₀ buffer at end line count turns = turns
+μ-loop buffer₀ line₀ at₀ end₀ count₀ turns₀ buffer line at end count turns = turns
 
 pub next-line-spec : {M : Type 1} → statement M
 next-line-spec =
@@ -19,12 +19,12 @@ next-line-spec =
     (λ c. search needs)
     (λ c κs. search needs)
     (λ c. search needs)
-    (λ c κs. search needs)
+    (λ c. search needs)
+    (λ c. search needs)
+    (λ c. search needs)
+    (λ c. search needs)
+    (λ c. search needs)
+    (λ c. search needs)
     (λ c. search needs)
     (λ c κs. search needs)
-    (λ c. search needs)
-    (λ c κs. search needs)
-    (λ c. search needs)
-    (λ c. search needs)
-    (λ c. search needs)
     (λ c. search needs))

@@ -5,10 +5,10 @@ use Rattle.walking.proofs.ahead.fill.Statement.{statement}
 use Rattle.walking.proofs.ahead.fill.Tie as tie
 
 abbrev Inv-loop : tie.InvT-loop
-Inv-loop buffer₀ at₀ end₀ line₀ next₀ turns₀ buffer at end line next turns = 0 ≤ turns
+Inv-loop buffer₀ line₀ next₀ turns₀ buffer line next turns = 0 ≤ turns
 
 abbrev μ-loop : tie.MeasureT-loop
-μ-loop buffer₀ at₀ end₀ line₀ next₀ turns₀ buffer at end line next turns = turns
+μ-loop buffer₀ line₀ next₀ turns₀ buffer line next turns = turns
 
 pub fill-spec : {M : Type 1} → statement M
 fill-spec =
@@ -19,6 +19,7 @@ fill-spec =
     (λ c. search needs)
     (λ c. search needs)
     (λ c. search needs)
+    (λ c κs. search needs)
     (λ c κs. search needs)
     (λ c. search needs)
     (λ c. search needs)

@@ -5,10 +5,10 @@ use Rattle.walking.proofs.run.run.Statement.{statement}
 use Rattle.walking.proofs.run.run.Tie as tie
 
 abbrev Inv-loop : tie.InvT-loop
-Inv-loop buffer₀ at₀ end₀ line₀ out₀ ahead₀ walked₀ calls₀ buffer at end line out ahead walked calls = 0 ≤ calls
+Inv-loop buffer₀ line₀ out₀ ahead₀ walked₀ calls₀ buffer line out ahead walked calls = 0 ≤ calls
 
 abbrev μ-loop : tie.MeasureT-loop
-μ-loop buffer₀ at₀ end₀ line₀ out₀ ahead₀ walked₀ calls₀ buffer at end line out ahead walked calls = 18446744073709551615 - calls
+μ-loop buffer₀ line₀ out₀ ahead₀ walked₀ calls₀ buffer line out ahead walked calls = 18446744073709551615 - calls
 
 pub run-spec : {M : Type 1} → statement M
 run-spec =

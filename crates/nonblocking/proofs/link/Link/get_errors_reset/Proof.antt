@@ -13,7 +13,7 @@ returns : tie.Need-returns
 returns c =
     λ words log.
     let x = model (c .before .before .before .args .self) in
-    outcome-12 getErrorsReset words x (sym (c .before .before .impossible .ensures) ∙ c .before .if1 .taken) (c .refused .ensures)
+    outcome-12 getErrorsReset words x (sym (c .before .before .impossible .ensures) ∙ c .before .if1 .taken) (c .impossible-link .ensures)
 
 returns-2 : tie.Need-returns-2
 returns-2 c =

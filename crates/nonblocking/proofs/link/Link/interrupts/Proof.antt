@@ -13,7 +13,7 @@ returns : tie.Need-returns
 returns c =
     let x = c .before .before .before .before .before .args in
     let ws = x .words .now in
-    settled-12 (interruptPlan (x .on) (getD ws 0 0) (model (x .self))) ws (model (x .self)) (sym (c .before .before .impossible .ensures) ∙ c .before .if1 .taken) (c .refused .ensures)
+    settled-12 (interruptPlan (x .on) (getD ws 0 0) (model (x .self))) ws (model (x .self)) (sym (c .before .before .impossible .ensures) ∙ c .before .if1 .taken) (c .impossible-link .ensures)
 
 returns-2 : tie.Need-returns-2
 returns-2 c =

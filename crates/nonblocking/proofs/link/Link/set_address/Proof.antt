@@ -13,7 +13,7 @@ use Rattle.nonblocking.proofs.link.Link.set_address.Tie as tie
 returns : tie.Need-returns
 returns c =
     let x = c .before .before .before .before .before .args in
-    outcome-12 (setAddress (x .address)) (x .words .now) (model (x .self)) (sym (c .before .before .impossible .ensures) ∙ c .before .if1 .taken) (c .refused .ensures)
+    outcome-12 (setAddress (x .address)) (x .words .now) (model (x .self)) (sym (c .before .before .impossible .ensures) ∙ c .before .if1 .taken) (c .impossible-link .ensures)
 
 returns-2 : tie.Need-returns-2
 returns-2 c =
