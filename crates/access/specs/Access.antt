@@ -6,7 +6,7 @@ use mathlib.Core.List.{List, [], _∷_}
 use lib.ListN.{length}
 use lib.Dec.{leb}
 use Rattle.access.specs.declared.Report.{Report}
-use Rattle.layout.specs.Layout.{Register, offset}
+use Rattle.fields.specs.Layout.{Register, offset}
 use Rattle.answers.specs.Answers.{Said, says, said}
 
 -- a register is read or written, with the word

@@ -1,8 +1,8 @@
 // The accesses before the first wait: the phase after each.
 ghost use mathlib.Core.Path.{_≡_};
 ghost use mathlib.Core.Bool.{cond};
-ghost use Rattle.layout.specs.Words.{starting};
-ghost use Rattle.layout.specs.Layout.{RXNE, _has_};
+ghost use Rattle.fields.specs.Words.{starting};
+ghost use Rattle.fields.specs.Layout.{RXNE, _has_};
 ghost use Rattle.phases.specs.Kinds.{afterStart};
 ghost use Rattle.phases.specs.Phases.{afterOpening};
 use flags::Isr;

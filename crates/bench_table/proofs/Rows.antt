@@ -8,7 +8,7 @@ use Rattle.fields.specs.Field.{digit}
 use Rattle.config.specs.declared.Config.{Config}
 use Rattle.config.specs.declared.Setting.{Setting}
 use Rattle.config.specs.declared.Setting.the-variants.{Unset, Set}
-use Rattle.layout.specs.Layout.{Register, offset}
+use Rattle.fields.specs.Layout.{Register, offset}
 use Rattle.config.specs.Config.{maskNumber, plain, timingBits, period}
 use Rattle.access.specs.Access.{entries}
 use Rattle.ending.specs.Link.{fresh}

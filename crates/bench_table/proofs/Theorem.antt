@@ -6,7 +6,7 @@ use mathlib.Core.List.{List, [], _∷_, List·Memᴰ, List·Memᴰ·head, List·
 use lib.Dec.{eqb}
 use borrow.Author.Tests.{eqb-true}
 use Rattle.fields.specs.Field.{get, put, isSet}
-use Rattle.layout.specs.Words.{configured, started, ownSeven, ownTen, ownSecond}
+use Rattle.fields.specs.Words.{configured, started, ownSeven, ownTen, ownSecond}
 use Rattle.flags.specs.Flags.{takenAs}
 use Rattle.config.specs.Config.{timingBits, period}
 use Rattle.construction.specs.SetUp.{setUp}

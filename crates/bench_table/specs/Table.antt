@@ -7,7 +7,7 @@ use lib.ListN.{replicate}
 use Rattle.config.specs.declared.Config.{Config}
 use Rattle.config.specs.declared.Setting.the-variants.{Unset, Set}
 use Rattle.config.specs.declared.SlaveAddressMask.the-variants.{MaskOneBit}
-use Rattle.layout.specs.Layout.{Register, offset, OAR1, OAR2}
+use Rattle.fields.specs.Layout.{Register, offset, OAR1, OAR2}
 use Rattle.access.specs.Access.{Settled, entries}
 use Rattle.answers.specs.Answers.{Said}
 use Rattle.config.specs.Config.{plain, withOwnAddress, withSecondAddress, timingBits, period}

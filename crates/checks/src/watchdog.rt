@@ -4,7 +4,7 @@ ghost use Prim.Native.Nat.{ℕ};
 ghost use mathlib.Core.Bool.{true, false};
 ghost use mathlib.Core.List.{List, [], _∷_};
 ghost use lib.ListN.{length as size, getD};
-ghost use Rattle.layout.specs.Words.{powered};
+ghost use Rattle.fields.specs.Words.{powered};
 ghost use Rattle.access.specs.Access.{settle, Reported};
 ghost use Rattle.answers.specs.Answers.{says};
 ghost use Rattle.ending.specs.Link.{linkAt};

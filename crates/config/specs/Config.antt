@@ -12,7 +12,7 @@ use Rattle.config.specs.declared.SlaveAddressMask.{SlaveAddressMask}
 use Rattle.config.specs.declared.SlaveAddressMask.the-variants.{MaskNone, MaskOneBit, MaskTwoBits, MaskThreeBits, MaskFourBits, MaskFiveBits, MaskSixBits, MaskAllBits}
 use Rattle.limits.specs.declared.Mode.{Mode}
 use Rattle.limits.specs.Limits.{modeOf, filterAllowed}
-use Rattle.layout.specs.Layout.{SCLL, SCLH, SDADEL, SCLDEL, PRESC, _⟨_≔_⟩, _⟨_⟩}
+use Rattle.fields.specs.Layout.{SCLL, SCLH, SDADEL, SCLDEL, PRESC, _⟨_≔_⟩, _⟨_⟩}
 use Rattle.answers.specs.Answers.{Said, says}
 
 abbrev pub maskNumber : SlaveAddressMask → ℕ

@@ -6,8 +6,8 @@ use lib.Dec.{ltb}
 use lib.ListN.{length, getD}
 use Rattle.config.specs.declared.Config.{Config}
 use Rattle.construction.specs.declared.Written.{Written}
-use Rattle.layout.specs.Layout.{Register, CR1, OAR1, OAR2, TIMINGR}
-use Rattle.layout.specs.Words.{powered, configured, byteControl, ownSecond}
+use Rattle.fields.specs.Layout.{Register, CR1, OAR1, OAR2, TIMINGR}
+use Rattle.fields.specs.Words.{powered, configured, byteControl, ownSecond}
 use Rattle.access.specs.Access.{Access, read, write, Settled, refusal, settled}
 use Rattle.answers.specs.Answers.{says}
 use Rattle.config.specs.Config.{maskNumber, timingBits}

@@ -10,8 +10,8 @@ use borrow.Author.Tests.{le-ltb}
 use Rattle.wanted.specs.declared.Wanted.{Wanted}
 use Rattle.wanted.specs.declared.Wanted.the-variants.{Txis, Rxne, Tc}
 use Rattle.wanted.specs.declared.Found.the-variants.{Stopf as MetStopf}
-use Rattle.layout.specs.Layout.{CR2, ISR, ICR, RXDR, TXIS, TXE, TC, STOPF, offset, _has_}
-use Rattle.layout.specs.Words.{starting, started, flushed, cleared, sadd8, received}
+use Rattle.fields.specs.Layout.{CR2, ISR, ICR, RXDR, TXIS, TXE, TC, STOPF, offset, _has_}
+use Rattle.fields.specs.Words.{starting, started, flushed, cleared, sadd8, received}
 use Rattle.wanted.specs.Found.{foundIn}
 use Rattle.phases.specs.declared.Kind.the-variants.{Write, Read, WriteRead, ReadBack}
 use Rattle.phases.specs.declared.End.the-variants.{Stopf}

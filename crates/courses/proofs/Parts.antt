@@ -5,8 +5,8 @@ use mathlib.Core.Bool.{Bool, true, false}
 use mathlib.Core.List.{List, [], _∷_}
 use lib.ListN.{length, getD}
 use lib.Seq.{sets}
-use Rattle.layout.specs.Layout.{ISR, ICR, CR2, RXNE, TC, STOPF, offset, _has_}
-use Rattle.layout.specs.Words.{started, sadd8, cleared}
+use Rattle.fields.specs.Layout.{ISR, ICR, CR2, RXNE, TC, STOPF, offset, _has_}
+use Rattle.fields.specs.Words.{started, sadd8, cleared}
 use Rattle.phases.specs.declared.Kind.{Kind}
 use Rattle.parked.specs.declared.Parked.{Parked}
 use Rattle.stretches.specs.declared.Moved.{Moved}

@@ -5,8 +5,8 @@ use mathlib.Core.Bool.{Bool, true, false, cond}
 use mathlib.Core.List.{List, [], _∷_}
 use lib.ListN.{length, getD, drop}
 use lib.Seq.{sets}
-use Rattle.layout.specs.Layout.{ISR, ICR, CR2, RXNE, TXIS, TXE, TC, STOPF, offset, _has_}
-use Rattle.layout.specs.Words.{started, sadd8, cleared}
+use Rattle.fields.specs.Layout.{ISR, ICR, CR2, RXNE, TXIS, TXE, TC, STOPF, offset, _has_}
+use Rattle.fields.specs.Words.{started, sadd8, cleared}
 use Rattle.wanted.specs.declared.Wanted.the-variants.{Txis, Rxne}
 use Rattle.wanted.specs.declared.Found.the-variants.{Stopf as MetStopf}
 use Rattle.wanted.specs.Found.{foundIn}

@@ -3,7 +3,7 @@ ghost use Prim.Native.Nat.{_≤_};
 ghost use mathlib.Core.Path.{_≡_};
 ghost use mathlib.Core.Bool.{true, cond};
 ghost use lib.ListN.{length};
-ghost use Rattle.layout.specs.Layout.{RXNE, _has_};
+ghost use Rattle.fields.specs.Layout.{RXNE, _has_};
 ghost use Rattle.phases.specs.Kinds.{incoming};
 ghost use Rattle.courses.specs.Courses.{Asked, Stopped, Quiet, Closes, turnOf, phaseOf, closedAt};
 use crate::Close;

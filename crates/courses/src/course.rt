@@ -4,7 +4,7 @@ ghost use mathlib.Core.Path.{_≡_};
 ghost use mathlib.Core.Bool.{true};
 ghost use mathlib.Core.List.{List};
 ghost use lib.ListN.{length};
-ghost use Rattle.layout.specs.Layout.{TC, _has_};
+ghost use Rattle.fields.specs.Layout.{TC, _has_};
 ghost use Rattle.stretches.specs.Stretches.{Carried, waiting};
 ghost use Rattle.courses.specs.Courses.{Restarted, Turns, Follows, fresh};
 use crate::Half;

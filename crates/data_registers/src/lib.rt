@@ -1,6 +1,6 @@
 // RXDR and TXDR: the byte that came in, and the byte to send.
 ghost use mathlib.Core.Path.{_≡_};
-ghost use Rattle.layout.specs.Words.{received, sent};
+ghost use Rattle.fields.specs.Words.{received, sent};
 use fields::Field;
 
 pub struct Rxdr;

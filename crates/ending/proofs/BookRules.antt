@@ -9,7 +9,7 @@ use lib.ListN.{length, getElem?, replicate}
 use lib.Dec.{eqb, ltb}
 use Rattle.flags.specs.declared.Flag.{Flag}
 use Rattle.flags.specs.declared.Flag.the-variants.{Berr, Arlo, Nackf, Txis, Rxne, Stopf, Tc, Tcr, Addr, Nothing}
-use Rattle.layout.specs.Layout.{Register, CR1, CR2, OAR1, OAR2, TIMINGR, ISR, ICR, RXDR, TXDR, DIR, START, RXDATA, _⟨_⟩, _has_}
+use Rattle.fields.specs.Layout.{Register, CR1, CR2, OAR1, OAR2, TIMINGR, ISR, ICR, RXDR, TXDR, DIR, START, RXDATA, _⟨_⟩, _has_}
 use Rattle.flags.specs.Flags.{takenAs}
 use Rattle.access.specs.Access.{Access, read, write}
 use Rattle.answers.specs.Answers.{Said, says}

@@ -7,8 +7,8 @@ use lib.ListN.{length, getD, length-replicate, length-set}
 use lib.Dec.{eqb, ltb, leb}
 use Rattle.flags.specs.declared.Flag.{Flag}
 use Rattle.flags.specs.declared.Flag.the-variants.{Berr, Arlo, Nackf, Txis, Rxne, Stopf, Tc, Tcr, Addr, Nothing}
-use Rattle.layout.specs.Layout.{DIR, RXNE, _has_}
-use Rattle.layout.specs.Words.{starting, received}
+use Rattle.fields.specs.Layout.{DIR, RXNE, _has_}
+use Rattle.fields.specs.Words.{starting, received}
 use Rattle.flags.specs.Flags.{takenAs}
 use Rattle.access.specs.Access.{Access, reads, entries}
 use Rattle.access.proofs.Over.{over-length}

@@ -7,9 +7,9 @@ use mathlib.Core.Option.{none, some}
 use mathlib.Core.List.{List, [], _∷_}
 use lib.ListN.{take}
 use Rattle.fields.specs.Field.{get, put, isSet}
-use Rattle.layout.specs.Layout.{CR2, ISR, TXDR}
-use Rattle.layout.specs.Words.{starting, sized}
-use Rattle.layout.specs.Words.{started as startWord}
+use Rattle.fields.specs.Layout.{CR2, ISR, TXDR}
+use Rattle.fields.specs.Words.{starting, sized}
+use Rattle.fields.specs.Words.{started as startWord}
 use Rattle.flags.specs.Flags.{takenAs, directionOf}
 use Rattle.access.specs.Access.{Access, read, write}
 use Rattle.answers.specs.Answers.{says}

@@ -5,8 +5,8 @@ use mathlib.Core.Bool.{Bool, true, false}
 use mathlib.Core.List.{List, [], _∷_}
 use lib.ListN.{length, replicate}
 use lib.Dec.{T, eqb}
-use Rattle.layout.specs.Layout.{CR2, ISR}
-use Rattle.layout.specs.Words.{starting}
+use Rattle.fields.specs.Layout.{CR2, ISR}
+use Rattle.fields.specs.Words.{starting}
 use Rattle.flags.specs.Flags.{takenAs}
 use Rattle.access.specs.Access.{Access, read, reads, entries}
 use Rattle.answers.specs.Answers.{Said, says}

@@ -9,8 +9,8 @@ use lib.Dec.{T, eqb, ltb}
 use borrow.Author.Tests.{ltb-true}
 use Rattle.flags.specs.declared.Flag.{Flag}
 use Rattle.flags.specs.declared.Flag.the-variants.{Berr, Arlo, Nackf, Txis, Rxne, Stopf, Tc, Tcr, Addr, Nothing}
-use Rattle.layout.specs.Layout.{CR2, TXDR, DIR, RXNE, _has_}
-use Rattle.layout.specs.Words.{sadd16, started, sent, received}
+use Rattle.fields.specs.Layout.{CR2, TXDR, DIR, RXNE, _has_}
+use Rattle.fields.specs.Words.{sadd16, started, sent, received}
 use Rattle.access.specs.Access.{Access, write, reads, entries}
 use Rattle.answers.specs.Answers.{Said, says}
 use Rattle.ending.specs.Link.{Link}

@@ -6,8 +6,8 @@ use mathlib.Core.List.{List, [], _∷_, map}
 use lib.ListN.{take}
 use lib.Dec.{T}
 use Rattle.fields.specs.Field.{get, put, isSet}
-use Rattle.layout.specs.Words.{sized}
-use Rattle.layout.specs.Words.{started as startWord}
+use Rattle.fields.specs.Words.{sized}
+use Rattle.fields.specs.Words.{started as startWord}
 use Rattle.flags.specs.Flags.{takenAs, directionOf}
 use Rattle.answers.specs.Answers.{says}
 use Rattle.ending.specs.Link.{fresh, oneMore, impossible}

@@ -6,7 +6,7 @@ use mathlib.Core.List.{List, [], _∷_}
 use native.Mathlib.Omega.{arith}
 use lib.ListN.{length, replicate}
 use lib.Dec.{T, ltb, leb}
-use Rattle.layout.specs.Words.{starting}
+use Rattle.fields.specs.Words.{starting}
 use Rattle.access.specs.Access.{Access, reads, entries}
 use Rattle.answers.specs.Answers.{Said, says}
 use Rattle.ending.specs.Link.{Link}

@@ -3,8 +3,8 @@ use mathlib.Core.Path.{_≡_, refl}
 use mathlib.Core.List.{List, [], _∷_, map}
 use Prim.Native.Nat.{ℕ}
 use Rattle.fields.specs.Field.{get, put, isSet}
-use Rattle.layout.specs.Layout.{CR2, ISR, ICR, TXDR, RXDR}
-use Rattle.layout.specs.Words.{started}
+use Rattle.fields.specs.Layout.{CR2, ISR, ICR, TXDR, RXDR}
+use Rattle.fields.specs.Words.{started}
 use Rattle.flags.specs.Flags.{takenAs, directionOf}
 use Rattle.access.specs.Access.{Access, read, write}
 use Rattle.answers.specs.Answers.{Said, says}

@@ -5,7 +5,7 @@ use mathlib.Core.List.{List}
 use lib.ListN.{length, getD}
 use Rattle.access.specs.declared.Report.{Report}
 use Rattle.flags.specs.declared.Flag.{Flag}
-use Rattle.layout.specs.Layout.{ISR}
+use Rattle.fields.specs.Layout.{ISR}
 use Rattle.access.specs.Access.{read}
 use Rattle.ending.specs.Link.{Link}
 use Rattle.ending.specs.Plan.{Plan, after, onFlag}

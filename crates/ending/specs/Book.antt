@@ -8,8 +8,8 @@ use lib.ListN.{length, getD, getElem?}
 use lib.Dec.{T, eqb, leb, ltb}
 use Rattle.flags.specs.declared.Flag.{Flag}
 use Rattle.flags.specs.declared.Flag.the-variants.{Berr, Arlo, Nackf, Txis, Rxne, Stopf, Tc, Tcr, Addr, Nothing}
-use Rattle.layout.specs.Layout.{Register, offset, CR2, RXDR, DIR, _has_}
-use Rattle.layout.specs.Words.{starting, received}
+use Rattle.fields.specs.Layout.{Register, offset, CR2, RXDR, DIR, _has_}
+use Rattle.fields.specs.Words.{starting, received}
 use Rattle.flags.specs.Flags.{takenAs}
 use Rattle.access.specs.Access.{Access, read, write}
 use Rattle.answers.specs.Answers.{Said}

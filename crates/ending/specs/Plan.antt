@@ -6,8 +6,8 @@ use lib.ListN.{length, getD, take, set, replicate}
 use lib.Dec.{eqb, ltb, leb}
 use Rattle.flags.specs.declared.Flag.{Flag}
 use Rattle.flags.specs.declared.Flag.the-variants.{Berr, Arlo, Nackf, Txis, Rxne, Stopf, Tc, Tcr, Addr, Nothing}
-use Rattle.layout.specs.Layout.{CR1, CR2, OAR1, ISR, ICR, RXDR, TXDR, RXNE, ADDR, NACKF, STOPF, BERR, ARLO, DIR, _has_}
-use Rattle.layout.specs.Words.{powered, interrupts, byteControl, sadd16, starting, started, sized, refused, stopped, ownSeven, flushed, cleared, sent, received}
+use Rattle.fields.specs.Layout.{CR1, CR2, OAR1, ISR, ICR, RXDR, TXDR, RXNE, ADDR, NACKF, STOPF, BERR, ARLO, DIR, _has_}
+use Rattle.fields.specs.Words.{powered, interrupts, byteControl, sadd16, starting, started, sized, refused, stopped, ownSeven, flushed, cleared, sent, received}
 use Rattle.limits.specs.Limits.{lengthAllowed}
 use Rattle.flags.specs.Flags.{takenAs, directionOf, addressCode}
 use Rattle.access.specs.Access.{Access, read, write, over}

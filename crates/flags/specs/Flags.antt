@@ -5,7 +5,7 @@ use Rattle.flags.specs.declared.Flag.{Flag}
 use Rattle.flags.specs.declared.Flag.the-variants.{Berr, Arlo, Nackf, Txis, Rxne, Stopf, Tc, Tcr, Addr, Nothing}
 use Rattle.answers.specs.declared.I2cDirection.{I2cDirection}
 use Rattle.answers.specs.declared.I2cDirection.the-variants.{MasterReadSlaveWrite, MasterWriteSlaveRead}
-use Rattle.layout.specs.Layout.{BERR, ARLO, NACKF, TXIS, RXNE, STOPF, TC, TCR, ADDR, DIR, ADDCODE, _⟨_⟩, _has_}
+use Rattle.fields.specs.Layout.{BERR, ARLO, NACKF, TXIS, RXNE, STOPF, TC, TCR, ADDR, DIR, ADDCODE, _⟨_⟩, _has_}
 
 -- 'taken as': the first set flag, in the order of `check_isr_flags`
 unfoldable pub takenAs : ℕ → Flag

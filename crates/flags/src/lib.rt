@@ -2,8 +2,8 @@
 ghost use mathlib.Core.Path.{_≡_};
 ghost use mathlib.Core.Bool.{_||_, cond};
 ghost use Rattle.fields.specs.Field.{put};
-ghost use Rattle.layout.specs.Layout.{_has_, BERR, ARLO, NACKF, STOPF, TC, TCR, ADDR};
-ghost use Rattle.layout.specs.Words.{flushed};
+ghost use Rattle.fields.specs.Layout.{_has_, BERR, ARLO, NACKF, STOPF, TC, TCR, ADDR};
+ghost use Rattle.fields.specs.Words.{flushed};
 ghost use Rattle.flags.specs.Flags.{takenAs, directionOf, addressCode};
 use answers::I2cDirection;
 use fields::Field;

@@ -5,7 +5,7 @@ use mathlib.Core.List.{List}
 use Rattle.config.specs.declared.Config.{Config}
 use Rattle.access.specs.Access.{Settled}
 use Rattle.construction.specs.SetUp.{setUp}
-use Rattle.layout.specs.Words.{ownSeven}
+use Rattle.fields.specs.Words.{ownSeven}
 
 -- OAR1 holds the low seven bits of the own address, in ten-bit mode too
 abbrev pub construction : Config → ℕ → List ℕ → ℕ → Settled

@@ -5,8 +5,8 @@ use mathlib.Core.List.{List, [], _∷_}
 use lib.ListN.{length, getD}
 use Rattle.answers.specs.Answers.{Said, says, directionNumber}
 use Rattle.access.specs.Access.{Access, read, write, Settled, settled}
-use Rattle.layout.specs.Layout.{CR1, ISR, ICR, ADDR, _has_}
-use Rattle.layout.specs.Words.{byteControl, addressInterrupt, receiveInterrupt, cleared}
+use Rattle.fields.specs.Layout.{CR1, ISR, ICR, ADDR, _has_}
+use Rattle.fields.specs.Words.{byteControl, addressInterrupt, receiveInterrupt, cleared}
 use Rattle.flags.specs.Flags.{addressCode, directionOf}
 use Rattle.never_wait.specs.declared.Event.{Event}
 use Rattle.never_wait.specs.declared.Event.the-variants.{AddressMatch, Rxne}

@@ -8,7 +8,7 @@ use Rattle.access.specs.declared.Report.{Report}
 use Rattle.config.specs.declared.Config.{Config}
 use Rattle.access.specs.Access.{Settled, Reported}
 use Rattle.construction.specs.SetUp.{setUp}
-use Rattle.layout.specs.Words.{ownSeven, ownTen}
+use Rattle.fields.specs.Words.{ownSeven, ownTen}
 use Rattle.nonblocking.specs.declared.link.Link.{Link}
 use Rattle.nonblocking.specs.Model.{model}
 use Rattle.ending.specs.Link.{fresh}

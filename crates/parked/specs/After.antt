@@ -6,7 +6,7 @@ use lib.Dec.{eqb}
 use Rattle.answers.specs.Answers.{Said, says, directionNumber}
 use Rattle.wanted.specs.declared.Wanted.{Wanted}
 use Rattle.wanted.specs.declared.Found.{Found}
-use Rattle.layout.specs.Layout.{TXE, TXIS, ADDR, _has_}
+use Rattle.fields.specs.Layout.{TXE, TXIS, ADDR, _has_}
 use Rattle.flags.specs.Flags.{directionOf, addressCode}
 use Rattle.wanted.specs.Found.{foundIn}
 use Rattle.phases.specs.declared.Kind.the-variants.{ReadBack}

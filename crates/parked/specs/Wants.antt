@@ -2,8 +2,8 @@
 use Prim.Native.Nat.{ℕ, _+_, _*_, _%_}
 use mathlib.Core.Bool.{Bool, true, false, cond}
 use lib.Dec.{ltb}
-use Rattle.layout.specs.Layout.{Register, CR2, ISR, ICR, RXDR, TXDR, offset, BERR, ARLO, NACKF, STOPF, ADDR}
-use Rattle.layout.specs.Words.{started, refused, sadd8, flushed, cleared, sent}
+use Rattle.fields.specs.Layout.{Register, CR2, ISR, ICR, RXDR, TXDR, offset, BERR, ARLO, NACKF, STOPF, ADDR}
+use Rattle.fields.specs.Words.{started, refused, sadd8, flushed, cleared, sent}
 use Rattle.phases.specs.declared.Opening.{Opening}
 use Rattle.phases.specs.declared.Opening.the-variants.{Start, Drain, Modify, Setup, Flush, Release, Probe, Drop}
 use Rattle.phases.specs.declared.Phase.{Phase}

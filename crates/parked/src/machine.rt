@@ -1,8 +1,8 @@
 // A parked call: the access that it wants next, and the call after that access.
 ghost use mathlib.Core.Path.{_≡_};
 ghost use mathlib.Core.Bool.{cond};
-ghost use Rattle.layout.specs.Words.{sadd8};
-ghost use Rattle.layout.specs.Layout.{ADDR, _has_};
+ghost use Rattle.fields.specs.Words.{sadd8};
+ghost use Rattle.fields.specs.Layout.{ADDR, _has_};
 ghost use Rattle.flags.specs.Flags.{addressCode, directionOf};
 ghost use Rattle.phases.specs.Kinds.{setupWord, incoming};
 ghost use Rattle.parked.specs.Wants.{span, more, wantsByte, wants};

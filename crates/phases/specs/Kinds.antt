@@ -1,7 +1,7 @@
 -- What tells the waiting calls apart. `ReadBack` is a `write_read` from its second START on.
 use Prim.Native.Nat.{ℕ, _%_}
 use mathlib.Core.Bool.{Bool, true, false}
-use Rattle.layout.specs.Words.{started, sized}
+use Rattle.fields.specs.Words.{started, sized}
 use Rattle.phases.specs.declared.Kind.{Kind}
 use Rattle.phases.specs.declared.Kind.the-variants.{Write, Read, WriteRead, ReadBack, SlaveWrite, SlaveRead, SlaveWaitAddressed}
 use Rattle.phases.specs.declared.Opening.{Opening}

@@ -1,8 +1,8 @@
 -- What a phase alone tells: the phase after an access before the first wait, and what an access does to the count.
 use Prim.Native.Nat.{ℕ}
 use mathlib.Core.Bool.{cond}
-use Rattle.layout.specs.Layout.{RXNE, _has_}
-use Rattle.layout.specs.Words.{starting}
+use Rattle.fields.specs.Layout.{RXNE, _has_}
+use Rattle.fields.specs.Words.{starting}
 use Rattle.phases.specs.declared.Kind.{Kind}
 use Rattle.phases.specs.declared.Opening.{Opening}
 use Rattle.phases.specs.declared.Opening.the-variants.{Start, Drain, Modify, Setup, Flush, Release, Probe, Drop}

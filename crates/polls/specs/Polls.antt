@@ -6,7 +6,7 @@ use mathlib.Core.List.{List, [], _∷_}
 use lib.Dec.{leb}
 use lib.ListN.{length}
 use lib.Seq.{sets}
-use Rattle.layout.specs.Layout.{ISR, offset}
+use Rattle.fields.specs.Layout.{ISR, offset}
 use Rattle.wanted.specs.declared.Wanted.{Wanted}
 use Rattle.wanted.specs.declared.Found.the-variants.{Nothing as NoFlag}
 use Rattle.wanted.specs.Found.{foundIn}

@@ -1,6 +1,6 @@
 // CR1: the unit on or off, its filters and its interrupts. PE, SBC, ADDRIE and RXIE alone are switched by their fields.
 ghost use mathlib.Core.Path.{_≡_};
-ghost use Rattle.layout.specs.Words.{configured, interrupts};
+ghost use Rattle.fields.specs.Words.{configured, interrupts};
 use fields::Field;
 
 pub struct Cr1;

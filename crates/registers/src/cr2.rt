@@ -2,8 +2,8 @@
 ghost use mathlib.Core.Path.{_≡_};
 ghost use Prim.Native.Nat.{_*_, _%_};
 ghost use mathlib.Core.Bool.{true, false};
-ghost use Rattle.layout.specs.Layout.{ADD10, _has_};
-ghost use Rattle.layout.specs.Words.{started, sized, refused, stopped, starting, sadd8, sadd16};
+ghost use Rattle.fields.specs.Layout.{ADD10, _has_};
+ghost use Rattle.fields.specs.Words.{started, sized, refused, stopped, starting, sadd8, sadd16};
 use fields::Field;
 use fields::low_byte;
 

@@ -1,6 +1,6 @@
 // OAR1 and OAR2: the own addresses.
 ghost use mathlib.Core.Path.{_≡_};
-ghost use Rattle.layout.specs.Words.{ownSeven, ownTen, ownSecond};
+ghost use Rattle.fields.specs.Words.{ownSeven, ownTen, ownSecond};
 ghost use Rattle.config.specs.Config.{maskNumber};
 use config::SlaveAddressMask;
 use fields::Field;

@@ -1,6 +1,6 @@
 // The registers side by side.
 ghost use mathlib.Core.Path.{_≡_};
-ghost use Rattle.layout.specs.Layout.{offsets};
+ghost use Rattle.fields.specs.Layout.{offsets};
 use crate::cr1::Cr1;
 use crate::cr2::Cr2;
 use crate::data::Rxdr;

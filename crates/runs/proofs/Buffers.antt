@@ -10,7 +10,7 @@ use lib.Dec.{eqb}
 use lib.ListN.{length, getD, set}
 use lib.Seq.{sets}
 use Rattle.answers.specs.Answers.{Said, says}
-use Rattle.layout.specs.Words.{received}
+use Rattle.fields.specs.Words.{received}
 use Rattle.phases.specs.declared.Kind.{Kind}
 use Rattle.phases.specs.declared.Kind.the-variants.{Write, Read, WriteRead, ReadBack, SlaveWrite, SlaveRead, SlaveWaitAddressed}
 use Rattle.phases.specs.declared.Opening.{Opening}

@@ -4,7 +4,7 @@ use mathlib.Core.Path.{_≡_, refl}
 use mathlib.Core.List.{List, [], _∷_}
 use lib.ListN.{replicate}
 use Rattle.fields.specs.Field.{get, put, isSet}
-use Rattle.layout.specs.Words.{started, sized, refused}
+use Rattle.fields.specs.Words.{started, sized, refused}
 use Rattle.flags.specs.Flags.{directionOf}
 use Rattle.wanted.specs.Found.{foundIn}
 use Rattle.answers.specs.Answers.{Said, says}

@@ -8,8 +8,8 @@ use lib.ListN.{getD}
 use Rattle.wanted.specs.declared.Wanted.{Wanted}
 use Rattle.wanted.specs.declared.Wanted.the-variants.{Txis, Rxne, Tc}
 use Rattle.wanted.specs.declared.Found.the-variants.{Wanted as Met}
-use Rattle.layout.specs.Layout.{ISR, RXDR, TXDR, offset, _has_}
-use Rattle.layout.specs.Words.{sent}
+use Rattle.fields.specs.Layout.{ISR, RXDR, TXDR, offset, _has_}
+use Rattle.fields.specs.Words.{sent}
 use Rattle.wanted.specs.Found.{wantedName, foundIn}
 use Rattle.phases.specs.declared.Phase.{Phase}
 use Rattle.phases.specs.declared.Phase.the-variants.{Wait, Transfer}

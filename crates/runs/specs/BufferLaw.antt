@@ -8,7 +8,7 @@ use mathlib.Core.List.{List, [], _∷_}
 use lib.ListN.{length}
 use lib.Seq.{sets}
 use Rattle.answers.specs.Answers.{says}
-use Rattle.layout.specs.Words.{received}
+use Rattle.fields.specs.Words.{received}
 use Rattle.parked.specs.declared.Next.{Next}
 use Rattle.parked.specs.declared.Next.the-variants.{Read, Write, Over}
 use Rattle.parked.specs.declared.Parked.{Parked}

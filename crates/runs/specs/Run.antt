@@ -6,7 +6,7 @@ use mathlib.Core.List.{List, [], _∷_, _++_}
 use lib.ListN.{length, getD, drop, set}
 use Rattle.answers.specs.Answers.{Said, says, said}
 use Rattle.access.specs.Access.{over}
-use Rattle.layout.specs.Words.{received}
+use Rattle.fields.specs.Words.{received}
 use Rattle.phases.specs.declared.Kind.{Kind}
 use Rattle.parked.specs.declared.Next.{Next}
 use Rattle.parked.specs.declared.Next.the-variants.{Read, Write, Over}

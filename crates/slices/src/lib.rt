@@ -3,7 +3,7 @@ ghost use mathlib.Core.Path.{_≡_};
 ghost use mathlib.Core.Bool.{cond};
 ghost use Prim.Native.Nat.{min};
 ghost use lib.ListN.{getD, set};
-ghost use Rattle.layout.specs.Words.{received};
+ghost use Rattle.fields.specs.Words.{received};
 use data_registers::Rxdr;
 
 // The byte to send, 0x21 after the last.

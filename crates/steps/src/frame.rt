@@ -5,7 +5,7 @@ ghost use mathlib.Core.Bool.{true, false};
 ghost use mathlib.Core.List.{List, [], _∷_};
 ghost use lib.Dec.{ltb};
 ghost use lib.ListN.{length as size, getD};
-ghost use Rattle.layout.specs.Layout.{ISR};
+ghost use Rattle.fields.specs.Layout.{ISR};
 ghost use Rattle.access.specs.Access.{read, settle, Reported};
 ghost use Rattle.answers.specs.Answers.{said};
 ghost use Rattle.ending.specs.Link.{Link, linkAt};

@@ -11,8 +11,8 @@ use Rattle.wanted.specs.declared.Wanted.{Wanted}
 use Rattle.wanted.specs.declared.Wanted.the-variants.{Txis, Rxne}
 use Rattle.wanted.specs.declared.Found.the-variants.{Nothing}
 use Rattle.wanted.specs.Found.{foundIn}
-use Rattle.layout.specs.Layout.{ISR, RXDR, TXDR, TXIS, RXNE, offset, _has_}
-use Rattle.layout.specs.Words.{received, sent}
+use Rattle.fields.specs.Layout.{ISR, RXDR, TXDR, TXIS, RXNE, offset, _has_}
+use Rattle.fields.specs.Words.{received, sent}
 use Rattle.phases.specs.declared.Phase.the-variants.{Wait, Transfer}
 use Rattle.parked.specs.declared.Parked.{Parked}
 use Rattle.phases.specs.Kinds.{incoming}

@@ -4,7 +4,7 @@ ghost use mathlib.Core.Bool.{cond};
 ghost use mathlib.Core.List.{[], _∷_};
 ghost use lib.Dec.{ltb};
 ghost use lib.ListN.{getD};
-ghost use Rattle.layout.specs.Words.{sent};
+ghost use Rattle.fields.specs.Words.{sent};
 ghost use Rattle.flags.specs.Flags.{directionOf};
 ghost use Rattle.answers.specs.Answers.{said, says, directionNumber};
 use answers::Answer;

@@ -1,7 +1,7 @@
 // `flush_txdr`, at STOPF: the phase after each of its two reads of ISR.
 ghost use mathlib.Core.Path.{_≡_};
 ghost use mathlib.Core.Bool.{cond};
-ghost use Rattle.layout.specs.Layout.{TXIS, TXE, _has_};
+ghost use Rattle.fields.specs.Layout.{TXIS, TXE, _has_};
 use flags::Isr;
 use phases::Phase;
 

@@ -5,7 +5,7 @@ use Rattle.wanted.specs.declared.Wanted.{Wanted}
 use Rattle.wanted.specs.declared.Wanted.the-variants.{Txis as WantTxis, Rxne as WantRxne, Tc as WantTc}
 use Rattle.wanted.specs.declared.Found.{Found}
 use Rattle.wanted.specs.declared.Found.the-variants.{Wanted as Met, Berr as MetBerr, Arlo as MetArlo, Nackf as MetNackf, Tcr as MetTcr, Addr as MetAddr, Stopf as MetStopf, Nothing as MetNothing}
-use Rattle.layout.specs.Layout.{Name, BERR, ARLO, NACKF, TXIS, RXNE, STOPF, TC, TCR, ADDR, _has_}
+use Rattle.fields.specs.Layout.{Name, BERR, ARLO, NACKF, TXIS, RXNE, STOPF, TC, TCR, ADDR, _has_}
 
 abbrev pub wantedName : Wanted → Name
 wantedName WantTxis = TXIS

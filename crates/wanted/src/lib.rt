@@ -1,6 +1,6 @@
 // A word of ISR in a `busy_wait`: the wanted flag, else the first of the others.
 ghost use mathlib.Core.Path.{_≡_};
-ghost use Rattle.layout.specs.Layout.{_has_};
+ghost use Rattle.fields.specs.Layout.{_has_};
 ghost use Rattle.wanted.specs.Found.{wantedName, foundIn};
 use flags::Isr;
 

@@ -6,8 +6,8 @@ use mathlib.Core.List.{List, [], _∷_}
 use lib.ListN.{getD, take, drop}
 use Rattle.answers.specs.Answers.{says}
 use Rattle.access.specs.Access.{read, write, settle, settled}
-use Rattle.layout.specs.Layout.{CR1, TIMINGR}
-use Rattle.layout.specs.Words.{byteControl}
+use Rattle.fields.specs.Layout.{CR1, TIMINGR}
+use Rattle.fields.specs.Words.{byteControl}
 use Rattle.construction.specs.SetUp.{own, firstWritten, ownAddresses}
 use borrow.Author.Needs.{needs}
 use Rattle.construction.proofs.write_set_up.Statement.{statement}

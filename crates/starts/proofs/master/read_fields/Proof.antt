@@ -4,8 +4,8 @@ use native.Mathlib.Omega.{arith}
 use mathlib.Core.Bool.{true}
 use mathlib.Core.List.{[], _∷_}
 use lib.ListN.{getD, replicate}
-use Rattle.layout.specs.Layout.{CR2, RXDR}
-use Rattle.layout.specs.Words.{starting, started, sadd16}
+use Rattle.fields.specs.Layout.{CR2, RXDR}
+use Rattle.fields.specs.Words.{starting, started, sadd16}
 use Rattle.access.specs.Access.{read, write, over}
 use Rattle.ending.specs.Link.{linkAt, linkOf, begun}
 use Rattle.ending.specs.Plan.{readStart}

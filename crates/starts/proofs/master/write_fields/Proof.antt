@@ -5,8 +5,8 @@ use Prim.Native.Nat.{ℕ}
 use mathlib.Core.Bool.{false}
 use mathlib.Core.List.{[], _∷_}
 use lib.ListN.{length, getD}
-use Rattle.layout.specs.Layout.{CR2}
-use Rattle.layout.specs.Words.{starting, started, sadd16}
+use Rattle.fields.specs.Layout.{CR2}
+use Rattle.fields.specs.Words.{starting, started, sadd16}
 use Rattle.access.specs.Access.{read, write, over}
 use Rattle.ending.specs.Link.{linkAt, linkOf, begun}
 use Rattle.ending.specs.Plan.{writeStart, goodLength}

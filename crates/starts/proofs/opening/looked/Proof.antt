@@ -3,7 +3,7 @@ use mathlib.Core.Path.{refl}
 use mathlib.Core.List.{[], _∷_}
 use native.Mathlib.Omega.{arith}
 use lib.ListN.{getD}
-use Rattle.layout.specs.Layout.{CR2}
+use Rattle.fields.specs.Layout.{CR2}
 use Rattle.access.specs.Access.{read}
 use Rattle.answers.specs.Answers.{said}
 use Rattle.starts.proofs.Opened.{short, full, stored}

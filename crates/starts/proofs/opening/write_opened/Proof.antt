@@ -4,8 +4,8 @@ use mathlib.Core.Bool.{true, false}
 use mathlib.Core.List.{[], _∷_}
 use native.Mathlib.Omega.{arith}
 use lib.ListN.{getD}
-use Rattle.layout.specs.Layout.{CR2}
-use Rattle.layout.specs.Words.{starting, started, sadd16}
+use Rattle.fields.specs.Layout.{CR2}
+use Rattle.fields.specs.Words.{starting, started, sadd16}
 use Rattle.access.specs.Access.{read, write}
 use Rattle.answers.specs.Answers.{says}
 use Rattle.starts.proofs.Opened.{short, full, stored, unread}

@@ -3,8 +3,8 @@ use mathlib.Core.Path.{_≡_, refl, sym, _∙_}
 use mathlib.Core.Bool.{true, false}
 use mathlib.Core.List.{[], _∷_}
 use lib.ListN.{getD}
-use Rattle.layout.specs.Layout.{CR2, RXDR}
-use Rattle.layout.specs.Words.{starting, started, sadd16}
+use Rattle.fields.specs.Layout.{CR2, RXDR}
+use Rattle.fields.specs.Words.{starting, started, sadd16}
 use Rattle.access.specs.Access.{read, write}
 use Rattle.answers.specs.Answers.{says}
 use Rattle.starts.proofs.Opened.{short, unread}

@@ -3,8 +3,8 @@ use mathlib.Core.Path.{refl}
 use native.Mathlib.Omega.{arith}
 use mathlib.Core.Bool.{true}
 use lib.ListN.{getD}
-use Rattle.layout.specs.Layout.{ISR}
-use Rattle.layout.specs.Words.{started, sadd16}
+use Rattle.fields.specs.Layout.{ISR}
+use Rattle.fields.specs.Words.{started, sadd16}
 use Rattle.access.specs.Access.{read}
 use Rattle.ending.specs.Link.{linkAt}
 use Rattle.ending.specs.Plan.{after, onTcAt}

@@ -2,7 +2,7 @@
 use mathlib.Core.Path.{refl}
 use native.Mathlib.Omega.{arith}
 use borrow.Author.Tests.{eq-eqb, ne-eqb}
-use Rattle.layout.specs.Layout.{ISR}
+use Rattle.fields.specs.Layout.{ISR}
 use Rattle.access.specs.Access.{read}
 use mathlib.Core.Bool.{true, false}
 use lib.ListN.{getD}

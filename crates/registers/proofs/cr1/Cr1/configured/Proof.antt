@@ -1,5 +1,5 @@
 -- `registers::cr1::Cr1::configured` meets its contract: its fields are put one after the other.
-use Rattle.layout.specs.Words.{configured}
+use Rattle.fields.specs.Words.{configured}
 use Rattle.registers.proofs.cr1.Cr1.configured.Statement.{statement}
 use Rattle.registers.proofs.cr1.Cr1.configured.Tie as tie
 

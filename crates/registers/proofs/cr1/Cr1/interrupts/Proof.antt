@@ -1,5 +1,5 @@
 -- `registers::cr1::Cr1::interrupts` meets its contract: its fields are put one after the other.
-use Rattle.layout.specs.Words.{interrupts}
+use Rattle.fields.specs.Words.{interrupts}
 use Rattle.registers.proofs.cr1.Cr1.interrupts.Statement.{statement}
 use Rattle.registers.proofs.cr1.Cr1.interrupts.Tie as tie
 

@@ -1,5 +1,5 @@
 -- `registers::cr2::Cr2::refused` meets its contract: its fields are put one after the other.
-use Rattle.layout.specs.Words.{refused}
+use Rattle.fields.specs.Words.{refused}
 use Rattle.registers.proofs.cr2.Cr2.refused.Statement.{statement}
 use Rattle.registers.proofs.cr2.Cr2.refused.Tie as tie
 

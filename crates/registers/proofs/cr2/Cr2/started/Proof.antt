@@ -1,6 +1,6 @@
 -- `registers::cr2::Cr2::started` meets its contract: its fields are put one after the other.
-use Rattle.layout.specs.Layout.{place, NBYTES}
-use Rattle.layout.specs.Words.{started}
+use Rattle.fields.specs.Layout.{place, NBYTES}
+use Rattle.fields.specs.Words.{started}
 use Rattle.fields.proofs.FieldLaws.{put-low}
 use Rattle.registers.proofs.cr2.Cr2.started.Statement.{statement}
 use Rattle.registers.proofs.cr2.Cr2.started.Tie as tie

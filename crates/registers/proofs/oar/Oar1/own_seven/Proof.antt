@@ -1,5 +1,5 @@
 -- `registers::oar::Oar1::own_seven` meets its contract: its fields are put one after the other.
-use Rattle.layout.specs.Words.{ownSeven}
+use Rattle.fields.specs.Words.{ownSeven}
 use Rattle.registers.proofs.oar.Oar1.own_seven.Statement.{statement}
 use Rattle.registers.proofs.oar.Oar1.own_seven.Tie as tie
 

@@ -1,5 +1,5 @@
 -- `registers::oar::Oar1::own_ten` meets its contract: its fields are put one after the other.
-use Rattle.layout.specs.Words.{ownTen}
+use Rattle.fields.specs.Words.{ownTen}
 use Rattle.registers.proofs.oar.Oar1.own_ten.Statement.{statement}
 use Rattle.registers.proofs.oar.Oar1.own_ten.Tie as tie
 

@@ -1,5 +1,5 @@
 -- `registers::oar::Oar2::own_second` meets its contract: its fields are put one after the other.
-use Rattle.layout.specs.Words.{ownSecond}
+use Rattle.fields.specs.Words.{ownSecond}
 use Rattle.registers.proofs.oar.Oar2.own_second.Statement.{statement}
 use Rattle.registers.proofs.oar.Oar2.own_second.Tie as tie
 

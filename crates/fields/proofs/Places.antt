@@ -3,11 +3,11 @@
 use Prim.Native.Nat.{ℕ}
 use mathlib.Core.Path.{_≡_, refl}
 use mathlib.Core.List.{List, [], _∷_, map}
-use Rattle.layout.specs.Layout.{Name, place}
-use Rattle.layout.specs.Layout.{PE, TXIE, RXIE, ADDRIE, NACKIE, STOPIE, TCIE, ERRIE, DNF, ANFOFF, SBC}
-use Rattle.layout.specs.Layout.{SADD, RD-WRN, ADD10, START, STOP, NACK, NBYTES, RELOAD, AUTOEND}
-use Rattle.layout.specs.Layout.{OA1, OA1-7-1, OA1MODE, OA1EN, OA2, OA2MSK, OA2EN, SCLL, SCLH, SDADEL, SCLDEL, PRESC}
-use Rattle.layout.specs.Layout.{TXE, TXIS, RXNE, ADDR, NACKF, STOPF, TC, TCR, BERR, ARLO, DIR, ADDCODE, RXDATA, TXDATA}
+use Rattle.fields.specs.Layout.{Name, place}
+use Rattle.fields.specs.Layout.{PE, TXIE, RXIE, ADDRIE, NACKIE, STOPIE, TCIE, ERRIE, DNF, ANFOFF, SBC}
+use Rattle.fields.specs.Layout.{SADD, RD-WRN, ADD10, START, STOP, NACK, NBYTES, RELOAD, AUTOEND}
+use Rattle.fields.specs.Layout.{OA1, OA1-7-1, OA1MODE, OA1EN, OA2, OA2MSK, OA2EN, SCLL, SCLH, SDADEL, SCLDEL, PRESC}
+use Rattle.fields.specs.Layout.{TXE, TXIS, RXNE, ADDR, NACKF, STOPF, TC, TCR, BERR, ARLO, DIR, ADDCODE, RXDATA, TXDATA}
 
 abbrev at : Name → ℕ × ℕ
 at name = (place name .place, place name .width)

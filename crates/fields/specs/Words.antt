@@ -1,11 +1,11 @@
 -- The register words that the drivers form. A `modify` puts fields into the word read; a `write` starts from 0, for ISR from 1.
 use Prim.Native.Nat.{ℕ, _*_, _%_}
 use mathlib.Core.Bool.{Bool, true, false, not}
 use Rattle.fields.specs.Field.{digit}
-use Rattle.layout.specs.Layout.{PE, TXIE, RXIE, ADDRIE, NACKIE, STOPIE, TCIE, ERRIE, DNF, ANFOFF, SBC}
-use Rattle.layout.specs.Layout.{SADD, RD-WRN, START, STOP, NACK, NBYTES, RELOAD, AUTOEND}
-use Rattle.layout.specs.Layout.{OA1, OA1-7-1, OA1MODE, OA1EN, OA2, OA2MSK, OA2EN, TXE, RXDATA, TXDATA}
-use Rattle.layout.specs.Layout.{Name, _⟨_≔_⟩, _⟨_⟩, _has_}
+use Rattle.fields.specs.Layout.{PE, TXIE, RXIE, ADDRIE, NACKIE, STOPIE, TCIE, ERRIE, DNF, ANFOFF, SBC}
+use Rattle.fields.specs.Layout.{SADD, RD-WRN, START, STOP, NACK, NBYTES, RELOAD, AUTOEND}
+use Rattle.fields.specs.Layout.{OA1, OA1-7-1, OA1MODE, OA1EN, OA2, OA2MSK, OA2EN, TXE, RXDATA, TXDATA}
+use Rattle.fields.specs.Layout.{Name, _⟨_≔_⟩, _⟨_⟩, _has_}
 
 -- CR1: PE, at construction and by the watchdog
 abbrev pub powered : ℕ → Bool → ℕ
