@@ -14,8 +14,7 @@ use Rattle.access.specs.Access.{entries}
 use Rattle.ending.specs.Link.{fresh}
 use Rattle.ending.specs.Outcome.{outcome}
 use Rattle.ending.specs.EqualEnding.{ran}
-use Rattle.nonblocking.specs.Construct.{construction as nonBlockingConstruction}
-use Rattle.never_wait.specs.Construct.{construction as blockingConstruction}
+use Rattle.construction.specs.Drivers.{nonBlockingConstruction, blockingConstruction}
 use Rattle.ending.specs.Call.{Call, Step, masterWrite, masterWriteRead, masterRead, slaveWrite, checkIsrFlags, executeWatchdog, getErrorsReset, masterGetData, slaveGetData, getAddress, listen, unlisten, slaveSbc, setAddress}
 use Rattle.bench_table.specs.Table.{Driver, nonBlocking, blocking, Case, timing, sclPeriod, constructed, answer, log, beside, gives, Row, table}
 

@@ -15,8 +15,7 @@ use Rattle.ending.specs.Link.{fresh}
 use Rattle.ending.specs.Call.{Step, masterWrite, checkIsrFlags, getErrorsReset}
 use Rattle.ending.specs.Outcome.{outcome}
 use Rattle.ending.specs.EqualEnding.{ran, step}
-use Rattle.nonblocking.specs.Construct.{construction as nonBlockingConstruction}
-use Rattle.never_wait.specs.Construct.{construction as blockingConstruction}
+use Rattle.construction.specs.Drivers.{nonBlockingConstruction, blockingConstruction}
 
 pub data Driver : Type 0 where
   nonBlocking blocking : Driver

@@ -12,7 +12,7 @@ use Rattle.config.specs.declared.Config.{Config}
 use Rattle.ending.specs.Link.{fresh}
 use Rattle.nonblocking.specs.declared.link.Link.{Link}
 use Rattle.nonblocking.specs.Model.{model}
-use Rattle.nonblocking.specs.Construct.{construction}
+use Rattle.construction.specs.Drivers.{nonBlockingConstruction}
 use Rattle.ffi.specs.Renewed.{Renewed}
 
 -- where nothing is logged, each part of the link stays
@@ -44,7 +44,7 @@ renewed-promised : (c : Config) (clock : ℕ) (words before : List ℕ) (r : Rep
     × (l′ .errors ≡ 0)
     × (l′ .«length_write_read» ≡ 0)
     × (l′ .«data» ≡ replicate 255 0)
-    × Reported (construction c clock words (length before)) before r after
+    × Reported (nonBlockingConstruction c clock words (length before)) before r after
 renewed-promised c clock words before r l l′ after p e =
     let new : model l′ ≡ fresh = rw e at (p .link) in (
       λ i. new i .address,

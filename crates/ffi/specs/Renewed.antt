@@ -11,8 +11,8 @@ use Rattle.config.specs.declared.Config.{Config}
 use Rattle.ending.specs.Link.{fresh}
 use Rattle.nonblocking.specs.declared.link.Link.{Link}
 use Rattle.nonblocking.specs.Model.{model}
-use Rattle.nonblocking.specs.Construct.{construction}
+use Rattle.construction.specs.Drivers.{nonBlockingConstruction}
 
 pub record Renewed (c : Config) (clock : ℕ) (words before : List ℕ) (r : Report) (l l′ : Link) (after : List ℕ) : Type 0 where
   pub link : model l′ ≡ cond (eqb (r .logged) 0) (model l) fresh
-  pub report : Reported (construction c clock words (length before)) before r after
+  pub report : Reported (nonBlockingConstruction c clock words (length before)) before r after

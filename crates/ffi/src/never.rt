@@ -2,7 +2,7 @@
 ghost use mathlib.Core.Bool.{true, false};
 ghost use lib.ListN.{length};
 ghost use Rattle.access.specs.Access.{Reported};
-ghost use Rattle.never_wait.specs.Construct.{construction};
+ghost use Rattle.construction.specs.Drivers.{blockingConstruction};
 ghost use Rattle.never_wait.specs.NeverWait.{slaveAddressed, slaveSbc, interrupt, clearIrq};
 ghost use Rattle.flat.specs.Configured.{configOf};
 ghost use Rattle.flat.specs.Out.{Out};
@@ -73,7 +73,7 @@ pub extern "C" fn i2c_blocking_construct(
     log: &mut [u32],
     out: &mut [u64; 6],
 )
-    ensures { λ _. ⌜ Out (λ r. Reported (construction (configOf (now (config .entry))) clock (now (words .entry)) (length (now (log .entry)))) (now (log .entry)) r (now (log .exit))) (now (out .exit)) ⌝ }
+    ensures { λ _. ⌜ Out (λ r. Reported (blockingConstruction (configOf (now (config .entry))) clock (now (words .entry)) (length (now (log .entry)))) (now (log .entry)) r (now (log .exit))) (now (out .exit)) ⌝ }
 {
     let report = construct::i2c1(config_of(config), clock, words, log);
     put(report, out);

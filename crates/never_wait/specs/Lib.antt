@@ -1,2 +1,1 @@
-pub mod Construct
 pub mod NeverWait

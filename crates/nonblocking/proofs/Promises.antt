@@ -9,7 +9,8 @@ use Rattle.config.specs.declared.Config.{Config}
 use Rattle.access.specs.Access.{Reported}
 use Rattle.nonblocking.specs.declared.link.Link.{Link}
 use Rattle.nonblocking.specs.Model.{model}
-use Rattle.nonblocking.specs.Construct.{construction, Constructed}
+use Rattle.construction.specs.Drivers.{nonBlockingConstruction}
+use Rattle.nonblocking.specs.Construct.{Constructed}
 
 -- the definitions see each part of a link, in its place
 whole-link : (l : Link) →
@@ -31,7 +32,7 @@ all-zero : (c : Config) (clock : ℕ) (words before : List ℕ) (r : Report) (l 
     × (l .errors ≡ 0)
     × (l .«length_write_read» ≡ 0)
     × (l .«data» ≡ replicate 255 0)
-    × Reported (construction c clock words (length before)) before r after
+    × Reported (nonBlockingConstruction c clock words (length before)) before r after
 all-zero c clock words before r l after p = (
   λ i. p .link i .address,
   λ i. p .link i .watchdog,

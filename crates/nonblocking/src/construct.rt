@@ -4,7 +4,8 @@ ghost use lib.ListN.{length as size};
 ghost use Rattle.access.specs.Access.{Reported};
 ghost use Rattle.construction.specs.SetUp.{setUp};
 ghost use Rattle.ending.specs.Link.{fresh};
-ghost use Rattle.nonblocking.specs.Construct.{ownAddress, Constructed};
+ghost use Rattle.construction.specs.Drivers.{ownTenOrSeven};
+ghost use Rattle.nonblocking.specs.Construct.{Constructed};
 use crate::link::Called;
 use crate::link::Link;
 use config::Config;
@@ -26,7 +27,7 @@ impl Link {
 
 // OAR1 as this driver writes it: all ten bits of a long address.
 fn own_address(address: u16, address_11bits: bool) -> u32
-    ensures { λ r. ⌜ r ≡ ownAddress «address_11bits» address ⌝ }
+    ensures { λ r. ⌜ r ≡ ownTenOrSeven «address_11bits» address ⌝ }
 {
     if address_11bits {
         return Oar1::own_ten(address);
