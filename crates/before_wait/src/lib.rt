@@ -5,11 +5,11 @@ ghost use Rattle.fields.specs.Words.{starting};
 ghost use Rattle.fields.specs.Layout.{RXNE, _has_};
 ghost use Rattle.phases.specs.Kinds.{afterStart};
 ghost use Rattle.phases.specs.Phases.{afterOpening};
+use cr2::Cr2;
 use flags::Isr;
 use phases::Kind;
 use phases::Opening;
 use phases::Phase;
-use registers::cr2::Cr2;
 
 // After an access that read or wrote this word.
 pub fn after(opening: Opening, kind: Kind, word: u32) -> Phase

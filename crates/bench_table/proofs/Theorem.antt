@@ -7,10 +7,11 @@ use lib.Dec.{eqb}
 use borrow.Author.Tests.{eqb-true}
 use Rattle.fields.specs.Field.{get, put, isSet}
 use Rattle.fields.specs.Words.{configured, started, ownSeven, ownTen, ownSecond}
-use Rattle.flags.specs.Flags.{takenAs}
+use Rattle.flag_order.specs.FlagOrder.{takenAs}
 use Rattle.config.specs.Config.{timingBits, period}
 use Rattle.construction.specs.SetUp.{setUp}
-use Rattle.ending.specs.Link.{oneMore, impossible}
+use Rattle.limits.specs.Limits.{oneMore}
+use Rattle.ending.specs.Link.{impossible}
 use Rattle.ending.specs.Outcome.{outcome}
 use Rattle.ending.specs.EqualEnding.{ran}
 use Rattle.bench_table.specs.Table.{Row, gives, table, same, agrees}

@@ -4,8 +4,8 @@ use mathlib.Core.List.{[], _∷_}
 use denote.Enum.Declared.{tagOf}
 use types.Run.{OneOf, miss}
 use Rattle.flags.proofs.Flag.{the-type}
-use Rattle.flags.specs.declared.Flag.{Flag}
-use Rattle.flags.specs.declared.Flag.the-variants.{Berr, Arlo, Nackf, Txis, Rxne, Stopf, Tc, Tcr, Addr, Nothing}
+use Rattle.flag_order.specs.declared.Flag.{Flag}
+use Rattle.flag_order.specs.declared.Flag.the-variants.{Berr, Arlo, Nackf, Txis, Rxne, Stopf, Tc, Tcr, Addr, Nothing}
 use Rattle.checks.specs.Rest.{rest}
 
 -- each of them is taken as itself

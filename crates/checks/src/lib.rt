@@ -12,8 +12,8 @@ ghost use Rattle.checks.specs.Rest.{rest};
 use access::Report;
 use access::word_at;
 use errors::impossible_link;
-use flags::Flag;
-use flags::Isr;
+use flag_order::Flag;
+use flag_order::taken_as;
 use limits::impossible;
 use steps::addressed::on_addr;
 use steps::frame::on_tc;
@@ -48,7 +48,7 @@ pub fn check_fields(
     if impossible(i, n, *length_write_read, *watchdog) {
         return impossible_link();
     }
-    let flag = Isr::taken_as(word_at(words, 0));
+    let flag = taken_as(word_at(words, 0));
     // Each arm returns by itself: its proof is shorter than that of a value in which all arms meet.
     match flag {
         Flag::Txis => return on_txis(index, n as u8, data, words, log),

@@ -10,14 +10,14 @@ ghost use Rattle.phases.specs.Kinds.{incoming};
 ghost use Rattle.polls.specs.Polls.{Put};
 ghost use Rattle.courses.specs.Courses.{Opens};
 use crate::Opened;
+use cr2::Cr2;
+use data_registers::Rxdr;
 use flags::Isr;
 use parked::Kind;
 use parked::Opening;
 use parked::Parked;
 use parked::Phase;
 use polls::put_at;
-use registers::cr2::Cr2;
-use registers::data::Rxdr;
 use stretches::Moved;
 
 // START is clear, and a `modify` of CR2.

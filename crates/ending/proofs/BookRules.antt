@@ -7,10 +7,10 @@ use mathlib.Core.Option.{Option, none, some}
 use mathlib.Core.List.{List, [], _∷_, map}
 use lib.ListN.{length, getElem?, replicate}
 use lib.Dec.{eqb, ltb}
-use Rattle.flags.specs.declared.Flag.{Flag}
-use Rattle.flags.specs.declared.Flag.the-variants.{Berr, Arlo, Nackf, Txis, Rxne, Stopf, Tc, Tcr, Addr, Nothing}
+use Rattle.flag_order.specs.declared.Flag.{Flag}
+use Rattle.flag_order.specs.declared.Flag.the-variants.{Berr, Arlo, Nackf, Txis, Rxne, Stopf, Tc, Tcr, Addr, Nothing}
 use Rattle.fields.specs.Layout.{Register, CR1, CR2, OAR1, OAR2, TIMINGR, ISR, ICR, RXDR, TXDR, DIR, START, RXDATA, _⟨_⟩, _has_}
-use Rattle.flags.specs.Flags.{takenAs}
+use Rattle.flag_order.specs.FlagOrder.{takenAs}
 use Rattle.access.specs.Access.{Access, read, write}
 use Rattle.answers.specs.Answers.{Said, says}
 use Rattle.ending.specs.Call.{masterWrites, slaveWrites, masterReads, checks, tellsErrors, showsMaster, other, roleOf, isStart}

@@ -5,11 +5,11 @@ use mathlib.Core.Bool.{Bool, true, false}
 use mathlib.Core.List.{List, [], _∷_}
 use lib.ListN.{length, getD, length-replicate, length-set}
 use lib.Dec.{eqb, ltb, leb}
-use Rattle.flags.specs.declared.Flag.{Flag}
-use Rattle.flags.specs.declared.Flag.the-variants.{Berr, Arlo, Nackf, Txis, Rxne, Stopf, Tc, Tcr, Addr, Nothing}
+use Rattle.flag_order.specs.declared.Flag.{Flag}
+use Rattle.flag_order.specs.declared.Flag.the-variants.{Berr, Arlo, Nackf, Txis, Rxne, Stopf, Tc, Tcr, Addr, Nothing}
 use Rattle.fields.specs.Layout.{DIR, RXNE, _has_}
 use Rattle.fields.specs.Words.{starting, received}
-use Rattle.flags.specs.Flags.{takenAs}
+use Rattle.flag_order.specs.FlagOrder.{takenAs}
 use Rattle.access.specs.Access.{Access, reads, entries}
 use Rattle.access.proofs.Over.{over-length}
 use Rattle.ending.specs.Link.{Link}

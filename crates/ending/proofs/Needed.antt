@@ -10,10 +10,12 @@ use Rattle.fields.specs.Field.{get, put, isSet}
 use Rattle.fields.specs.Layout.{CR2, ISR, TXDR}
 use Rattle.fields.specs.Words.{starting, sized}
 use Rattle.fields.specs.Words.{started as startWord}
-use Rattle.flags.specs.Flags.{takenAs, directionOf}
+use Rattle.flag_order.specs.FlagOrder.{takenAs}
+use Rattle.flags.specs.Flags.{directionOf}
 use Rattle.access.specs.Access.{Access, read, write}
 use Rattle.answers.specs.Answers.{says}
-use Rattle.ending.specs.Link.{oneMore, impossible}
+use Rattle.limits.specs.Limits.{oneMore}
+use Rattle.ending.specs.Link.{impossible}
 use Rattle.ending.specs.Call.{Call, Step, masterWrite, masterWriteRead, masterRead, slaveWrite, checkIsrFlags, getErrorsReset, masterGetData}
 use Rattle.ending.specs.Outcome.{outcome}
 use Rattle.ending.specs.Book.{byBus, opened, isRegister}

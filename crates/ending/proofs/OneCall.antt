@@ -7,11 +7,12 @@ use lib.ListN.{length, replicate}
 use lib.Dec.{T, eqb}
 use Rattle.fields.specs.Layout.{CR2, ISR}
 use Rattle.fields.specs.Words.{starting}
-use Rattle.flags.specs.Flags.{takenAs}
+use Rattle.flag_order.specs.FlagOrder.{takenAs}
 use Rattle.access.specs.Access.{Access, read, reads, entries}
 use Rattle.answers.specs.Answers.{Said, says}
 use Rattle.ending.specs.Link.{Link}
-use Rattle.ending.specs.Link.{Common, linkOf, begun, turned, withWatchdog, oneMore}
+use Rattle.limits.specs.Limits.{oneMore}
+use Rattle.ending.specs.Link.{Common, linkOf, begun, turned, withWatchdog}
 use Rattle.ending.specs.Call.{Call, masterWrite, masterWriteRead, masterRead, slaveWrite, checkIsrFlags, executeWatchdog, getErrorsReset, masterGetData, slaveGetData, getAddress, listen, unlisten, slaveSbc, setAddress}
 use Rattle.ending.specs.Plan.{Plan, plan, onStart, goodLength, onSlaveWrite, onWatchdog, tells, shows, planOf}
 use Rattle.ending.specs.Book.{Book, Event, Receiving, closed, byRead, byBus, feed, clean}

@@ -7,14 +7,15 @@ use native.Mathlib.Omega.{arith}
 use lib.ListN.{length, getD}
 use lib.Dec.{T, eqb, ltb}
 use borrow.Author.Tests.{ltb-true}
-use Rattle.flags.specs.declared.Flag.{Flag}
-use Rattle.flags.specs.declared.Flag.the-variants.{Berr, Arlo, Nackf, Txis, Rxne, Stopf, Tc, Tcr, Addr, Nothing}
+use Rattle.flag_order.specs.declared.Flag.{Flag}
+use Rattle.flag_order.specs.declared.Flag.the-variants.{Berr, Arlo, Nackf, Txis, Rxne, Stopf, Tc, Tcr, Addr, Nothing}
 use Rattle.fields.specs.Layout.{CR2, TXDR, DIR, RXNE, _has_}
 use Rattle.fields.specs.Words.{sadd16, started, sent, received}
 use Rattle.access.specs.Access.{Access, write, reads, entries}
 use Rattle.answers.specs.Answers.{Said, says}
 use Rattle.ending.specs.Link.{Link}
-use Rattle.ending.specs.Link.{Common, linkOf, begun, turned, atIndex, withWatchdog, addressed, oneMore}
+use Rattle.limits.specs.Limits.{oneMore}
+use Rattle.ending.specs.Link.{Common, linkOf, begun, turned, atIndex, withWatchdog, addressed}
 use Rattle.ending.specs.Call.{Call, checkIsrFlags}
 use Rattle.ending.specs.Plan.{Plan, raised, onTxis, onFull, onRxne, onStopf, onTcAt, onAddr, onFlag}
 use Rattle.ending.specs.Book.{Book, Event, Receiving, closed, byRead, byBus, isOpen, opened, risen, byFlag, isRefused, cleanFlag}

@@ -8,10 +8,10 @@ use lib.ListN.{length, getD, take}
 use lib.Dec.{ltb, leb, leb·zero}
 use borrow.Author.Tests.{ltb-false, leb-true}
 use Rattle.access.specs.declared.Report.{Report}
-use Rattle.flags.specs.declared.Flag.{Flag}
+use Rattle.flag_order.specs.declared.Flag.{Flag}
 use Rattle.answers.specs.declared.Answer.{Answer}
 use Rattle.answers.specs.Answers.{Said, said}
-use Rattle.flags.specs.Flags.{takenAs}
+use Rattle.flag_order.specs.FlagOrder.{takenAs}
 use Rattle.limits.specs.Limits.{impossibleAt}
 use Rattle.ending.specs.Link.{Link}
 use Rattle.ending.specs.Link.{impossible}

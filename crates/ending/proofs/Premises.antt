@@ -8,9 +8,11 @@ use lib.Dec.{T}
 use Rattle.fields.specs.Field.{get, put, isSet}
 use Rattle.fields.specs.Words.{sized}
 use Rattle.fields.specs.Words.{started as startWord}
-use Rattle.flags.specs.Flags.{takenAs, directionOf}
+use Rattle.flag_order.specs.FlagOrder.{takenAs}
+use Rattle.flags.specs.Flags.{directionOf}
 use Rattle.answers.specs.Answers.{says}
-use Rattle.ending.specs.Link.{fresh, oneMore, impossible}
+use Rattle.limits.specs.Limits.{oneMore}
+use Rattle.ending.specs.Link.{fresh, impossible}
 use Rattle.ending.specs.Call.{Call, Step, masterWrite, masterWriteRead, masterRead, checkIsrFlags, masterGetData, roleOf, isStart}
 use Rattle.ending.specs.Outcome.{outcome}
 use Rattle.ending.specs.Book.{Event}

@@ -5,7 +5,8 @@ use Prim.Native.Nat.{ℕ}
 use Rattle.fields.specs.Field.{get, put, isSet}
 use Rattle.fields.specs.Layout.{CR2, ISR, ICR, TXDR, RXDR}
 use Rattle.fields.specs.Words.{started}
-use Rattle.flags.specs.Flags.{takenAs, directionOf}
+use Rattle.flag_order.specs.FlagOrder.{takenAs}
+use Rattle.flags.specs.Flags.{directionOf}
 use Rattle.access.specs.Access.{Access, read, write}
 use Rattle.answers.specs.Answers.{Said, says}
 use Rattle.ending.specs.Link.{fresh, impossible}

@@ -4,7 +4,7 @@ use mathlib.Core.Bool.{false}
 use mathlib.Core.List.{List}
 use lib.ListN.{length, getD}
 use Rattle.access.specs.declared.Report.{Report}
-use Rattle.flags.specs.declared.Flag.{Flag}
+use Rattle.flag_order.specs.declared.Flag.{Flag}
 use Rattle.fields.specs.Layout.{ISR}
 use Rattle.access.specs.Access.{read}
 use Rattle.ending.specs.Link.{Link}

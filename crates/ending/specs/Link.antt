@@ -65,10 +65,6 @@ withWatchdog n c = record { address = c .address; watchdog = n; index = c .index
 abbrev pub addressed : ℕ → Common → Common
 addressed address c = record { address = address; watchdog = 10; index = c .index; length = c .length }
 
--- one more error; the count stops at its top
-unfoldable pub oneMore : ℕ → ℕ
-oneMore errors = cond (ltb errors 4294967295) (errors + 1) errors
-
 -- answer 12
 unfoldable pub impossible : Link → Bool
 impossible l = impossibleAt (l .index) (l .length) (l .«length_write_read») (l .watchdog)

@@ -4,16 +4,18 @@ use mathlib.Core.Bool.{Bool, true, false, _&&_}
 use mathlib.Core.List.{List, [], _∷_}
 use lib.ListN.{length, getD, take, set, replicate}
 use lib.Dec.{eqb, ltb, leb}
-use Rattle.flags.specs.declared.Flag.{Flag}
-use Rattle.flags.specs.declared.Flag.the-variants.{Berr, Arlo, Nackf, Txis, Rxne, Stopf, Tc, Tcr, Addr, Nothing}
+use Rattle.flag_order.specs.declared.Flag.{Flag}
+use Rattle.flag_order.specs.declared.Flag.the-variants.{Berr, Arlo, Nackf, Txis, Rxne, Stopf, Tc, Tcr, Addr, Nothing}
 use Rattle.fields.specs.Layout.{CR1, CR2, OAR1, ISR, ICR, RXDR, TXDR, RXNE, ADDR, NACKF, STOPF, BERR, ARLO, DIR, _has_}
 use Rattle.fields.specs.Words.{powered, interrupts, byteControl, sadd16, starting, started, sized, refused, stopped, ownSeven, flushed, cleared, sent, received}
 use Rattle.limits.specs.Limits.{lengthAllowed}
-use Rattle.flags.specs.Flags.{takenAs, directionOf, addressCode}
+use Rattle.flag_order.specs.FlagOrder.{takenAs}
+use Rattle.flags.specs.Flags.{directionOf, addressCode}
 use Rattle.access.specs.Access.{Access, read, write, over}
 use Rattle.answers.specs.Answers.{Said, says, directionNumber}
 use Rattle.ending.specs.Link.{Link}
-use Rattle.ending.specs.Link.{Common, common, linkOf, begun, turned, atIndex, withWatchdog, addressed, oneMore}
+use Rattle.limits.specs.Limits.{oneMore}
+use Rattle.ending.specs.Link.{Common, common, linkOf, begun, turned, atIndex, withWatchdog, addressed}
 use Rattle.ending.specs.Call.{Call, masterWrite, masterWriteRead, masterRead, slaveWrite, checkIsrFlags, executeWatchdog, getErrorsReset, masterGetData, slaveGetData, getAddress, listen, unlisten, slaveSbc, setAddress}
 
 pub record Plan : Type 0 where

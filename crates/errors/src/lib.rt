@@ -1,6 +1,6 @@
 // The error count of a link, and the refusals that many calls share.
 ghost use mathlib.Core.Path.{_≡_};
-ghost use Rattle.ending.specs.Link.{oneMore};
+ghost use Rattle.limits.specs.Limits.{oneMore};
 use access::Report;
 use access::refused;
 use answers::Answer;

@@ -1,5 +1,5 @@
 -- The limits of a configuration, the speeds and the cycles of the digital filter, of a transfer's length, and of what a link holds.
-use Prim.Native.Nat.{ℕ}
+use Prim.Native.Nat.{ℕ, _+_}
 use mathlib.Core.Bool.{Bool, cond, _&&_, _||_}
 use lib.Dec.{ltb, leb}
 use Rattle.limits.specs.declared.Mode.{Mode}
@@ -22,3 +22,7 @@ lengthAllowed n = ltb 0 n && leb n 255
 -- answer 12: an index above the length, a length above 255, a watchdog above 10
 abbrev pub impossibleAt : ℕ → ℕ → ℕ → ℕ → Bool
 impossibleAt index length second watchdog = ltb length index || ltb 255 length || ltb 255 second || ltb 10 watchdog
+
+-- one more error; the count stops at its top
+unfoldable pub oneMore : ℕ → ℕ
+oneMore errors = cond (ltb errors 4294967295) (errors + 1) errors

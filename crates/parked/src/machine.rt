@@ -10,15 +10,15 @@ ghost use Rattle.parked.specs.After.{phaseAt, turns, moves, after};
 use crate::Next;
 use crate::Parked;
 use answers::Answer;
+use cr2::Cr2;
+use data_registers::Rxdr;
+use data_registers::Txdr;
 use flags::Icr;
 use flags::Isr;
 use phases::End;
 use phases::Kind;
 use phases::Phase;
 use phases::Role;
-use registers::cr2::Cr2;
-use registers::data::Rxdr;
-use registers::data::Txdr;
 use waits::flush::pending_txe;
 use waits::flush::pending_txis;
 

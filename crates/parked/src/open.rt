@@ -3,11 +3,11 @@ ghost use mathlib.Core.Path.{_≡_};
 ghost use Rattle.parked.specs.Wants.{wantsOpening};
 use crate::Next;
 use crate::Parked;
+use cr2::Cr2;
+use data_registers::Rxdr;
 use flags::Icr;
 use flags::Isr;
 use phases::Opening;
-use registers::cr2::Cr2;
-use registers::data::Rxdr;
 
 impl Parked {
     pub(crate) fn wants_opening(self, step: Opening) -> Next

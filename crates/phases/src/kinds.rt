@@ -4,7 +4,7 @@ ghost use Rattle.phases.specs.Kinds.{sends, receives, incoming, restarts
 use crate::Kind;
 use crate::Opening;
 use crate::Phase;
-use registers::cr2::Cr2;
+use cr2::Cr2;
 
 // What a kind of call has and counts.
 impl Kind {

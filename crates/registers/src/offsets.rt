@@ -2,12 +2,12 @@
 ghost use mathlib.Core.Path.{_≡_};
 ghost use Rattle.fields.specs.Layout.{offsets};
 use crate::cr1::Cr1;
-use crate::cr2::Cr2;
 use crate::data::Rxdr;
 use crate::data::Txdr;
 use crate::oar::Oar1;
 use crate::oar::Oar2;
 use crate::timingr::Timingr;
+use cr2::Cr2;
 use flags::Icr;
 use flags::Isr;
 

@@ -11,9 +11,9 @@ use access::Report;
 use access::settle;
 use access::word_at;
 use answers::Answer;
+use cr2::Cr2;
 use flags::Icr;
 use flags::Isr;
-use registers::cr2::Cr2;
 
 // The length is set, TXDR is flushed, and ADDR is cleared.
 pub(crate) fn slave_opened(nbytes: usize, words: &[u32], log: &mut [u32]) -> Report

@@ -11,9 +11,9 @@ ghost use Rattle.ending.specs.Link.{Link};
 ghost use Rattle.ending.specs.Plan.{onStart};
 use access::Report;
 use answers::Answer;
+use cr2::Cr2;
 use errors::log_full;
 use errors::out_of_words;
-use registers::cr2::Cr2;
 use transfer::read_again;
 
 // CR2 was read, and nothing follows.

@@ -14,10 +14,10 @@ use access::Report;
 use access::settle;
 use access::word_at;
 use answers::Answer;
-use flags::Flag;
+use cr2::Cr2;
+use flag_order::Flag;
 use flags::Icr;
 use flags::Isr;
-use registers::cr2::Cr2;
 
 // Where the master writes, the buffer is opened for its bytes; where it reads, `slave_write` is to follow.
 pub fn on_addr(

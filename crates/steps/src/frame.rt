@@ -15,12 +15,12 @@ use access::Report;
 use access::settle;
 use access::word_at;
 use answers::Answer;
+use cr2::Cr2;
 use errors::log_full;
 use errors::one_more;
 use errors::out_of_words;
-use flags::Flag;
+use flag_order::Flag;
 use flags::Isr;
-use registers::cr2::Cr2;
 
 // ISR and CR2 were read and CR2 is written.
 fn cr2_written(answer: Answer, cr2: u32, words: &[u32], log: &mut [u32]) -> Report

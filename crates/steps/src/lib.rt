@@ -12,7 +12,7 @@ use access::settle;
 use access::word_at;
 use answers::Answer;
 use errors::one_more;
-use flags::Flag;
+use flag_order::Flag;
 use flags::Icr;
 use flags::Isr;
 

@@ -12,9 +12,9 @@ use access::Report;
 use access::settle;
 use access::word_at;
 use answers::Answer;
-use flags::Flag;
+use data_registers::Rxdr;
+use flag_order::Flag;
 use flags::Isr;
-use registers::data::Rxdr;
 
 // A byte came in. With a full index RXDR is read anyway, if RXNE is still set, to clear the flag.
 pub fn on_rxne(

@@ -9,11 +9,11 @@ use crate::on_nothing;
 use access::Report;
 use access::word_at;
 use answers::Answer;
+use data_registers::Txdr;
 use errors::one_more;
-use flags::Flag;
+use flag_order::Flag;
 use flags::Icr;
 use flags::Isr;
-use registers::data::Txdr;
 use transfer::byte_out;
 use transfer::shown;
 

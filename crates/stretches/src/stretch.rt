@@ -4,11 +4,11 @@ ghost use mathlib.Core.Path.{_≡_};
 ghost use mathlib.Core.Bool.{true};
 ghost use Rattle.stretches.specs.Stretches.{Sends, Receives};
 use crate::Moved;
+use data_registers::Rxdr;
+use data_registers::Txdr;
 use flags::Isr;
 use polls::Brought;
 use polls::polled;
-use registers::data::Rxdr;
-use registers::data::Txdr;
 use wanted::Wanted;
 
 // Whether a byte and a word are left.

@@ -3,7 +3,7 @@ use mathlib.Core.Path.{_≡_, sym, _∙_}
 use native.Mathlib.Omega.{arith}
 use native.Mathlib.Nat.{lt-of-le-of-lt}
 use lib.Dec.{lit<}
-use Rattle.flags.specs.declared.Flag.the-variants.{Txis, Rxne, Stopf, Tc, Addr}
+use Rattle.flag_order.specs.declared.Flag.the-variants.{Txis, Rxne, Stopf, Tc, Addr}
 use Rattle.ending.specs.Link.{linkAt}
 use Rattle.ending.specs.Call.{checkIsrFlags}
 use Rattle.ending.proofs.Outcomes.{outcome-12, check-by, length-255}

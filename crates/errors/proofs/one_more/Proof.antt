@@ -1,6 +1,6 @@
 -- `errors::one_more` meets its contract.
 use borrow.Author.Tests.{lt-ltb, le-ltb}
-use Rattle.ending.specs.Link.{oneMore}
+use Rattle.limits.specs.Limits.{oneMore}
 use borrow.Author.Needs.{needs}
 use Rattle.errors.proofs.one_more.Statement.{statement}
 use Rattle.errors.proofs.one_more.Tie as tie

@@ -1,7 +1,7 @@
 -- `steps::on_berr` meets its contract.
 use mathlib.Core.Path.{refl}
 use native.Mathlib.Omega.{arith}
-use Rattle.flags.specs.declared.Flag.the-variants.{Berr}
+use Rattle.flag_order.specs.declared.Flag.the-variants.{Berr}
 use Rattle.ending.specs.Link.{linkAt}
 use Rattle.ending.specs.Arms.{flagPlan}
 use Rattle.ending.proofs.Settling.{kept, gone}

@@ -1,6 +1,6 @@
 -- `steps::on_nackf` meets its contract.
 use mathlib.Core.Path.{refl}
-use Rattle.flags.specs.declared.Flag.the-variants.{Nackf}
+use Rattle.flag_order.specs.declared.Flag.the-variants.{Nackf}
 use Rattle.ending.specs.Arms.{flagPlan}
 use Rattle.ending.proofs.Settling.{same}
 use borrow.Author.Needs.{needs}

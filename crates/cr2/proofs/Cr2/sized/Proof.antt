@@ -1,9 +1,9 @@
--- `registers::cr2::Cr2::sized` meets its contract: its fields are put one after the other.
+-- `cr2::Cr2::sized` meets its contract: its fields are put one after the other.
 use Rattle.fields.specs.Layout.{place, NBYTES}
 use Rattle.fields.specs.Words.{sized}
 use Rattle.fields.proofs.FieldLaws.{put-low}
-use Rattle.registers.proofs.cr2.Cr2.sized.Statement.{statement}
-use Rattle.registers.proofs.cr2.Cr2.sized.Tie as tie
+use Rattle.cr2.proofs.Cr2.sized.Statement.{statement}
+use Rattle.cr2.proofs.Cr2.sized.Tie as tie
 
 returns : tie.Need-returns
 unfolding sized

@@ -1,9 +1,9 @@
--- `flags::Isr::taken_as` meets its contract: a test of a group, and then which of it.
+-- `flag_order::taken_as` meets its contract: a test of a group, and then which of it.
 use mathlib.Core.Path.{_≡_, sym, _∙_}
-use Rattle.flags.specs.Flags.{takenAs}
-use Rattle.flags.proofs.FlagOrder.{grouped}
-use Rattle.flags.proofs.Isr.taken_as.Statement.{statement}
-use Rattle.flags.proofs.Isr.taken_as.Tie as tie
+use Rattle.flag_order.specs.FlagOrder.{takenAs}
+use Rattle.flag_order.proofs.Groups.{grouped}
+use Rattle.flag_order.proofs.taken_as.Statement.{statement}
+use Rattle.flag_order.proofs.taken_as.Tie as tie
 
 returns : tie.Need-returns
 unfolding takenAs

@@ -1,6 +1,6 @@
--- `flags::Isr::any_fault` meets its contract.
-use Rattle.flags.proofs.Isr.any_fault.Statement.{statement}
-use Rattle.flags.proofs.Isr.any_fault.Tie as tie
+-- `flag_order::any_fault` meets its contract.
+use Rattle.flag_order.proofs.any_fault.Statement.{statement}
+use Rattle.flag_order.proofs.any_fault.Tie as tie
 
 returns : tie.Need-returns
 returns c = rw (c .before .before .is-set .ensures, c .before .is-set2 .ensures, c .is-set3 .ensures)

@@ -1,7 +1,7 @@
--- `registers::cr2::Cr2::refused` meets its contract: its fields are put one after the other.
+-- `cr2::Cr2::refused` meets its contract: its fields are put one after the other.
 use Rattle.fields.specs.Words.{refused}
-use Rattle.registers.proofs.cr2.Cr2.refused.Statement.{statement}
-use Rattle.registers.proofs.cr2.Cr2.refused.Tie as tie
+use Rattle.cr2.proofs.Cr2.refused.Statement.{statement}
+use Rattle.cr2.proofs.Cr2.refused.Tie as tie
 
 returns : tie.Need-returns
 unfolding refused

@@ -2,10 +2,10 @@
 use Prim.Native.Nat.{ℕ}
 use mathlib.Core.Path.{_≡_, refl, _∙_, ap}
 use mathlib.Core.Bool.{Bool, true, false, cond, _||_}
-use Rattle.flags.specs.declared.Flag.{Flag}
-use Rattle.flags.specs.declared.Flag.the-variants.{Berr, Arlo, Nackf, Txis, Rxne, Stopf, Tc, Tcr, Addr, Nothing}
+use Rattle.flag_order.specs.declared.Flag.{Flag}
+use Rattle.flag_order.specs.declared.Flag.the-variants.{Berr, Arlo, Nackf, Txis, Rxne, Stopf, Tc, Tcr, Addr, Nothing}
 use Rattle.fields.specs.Layout.{BERR, ARLO, NACKF, TXIS, RXNE, STOPF, TC, TCR, ADDR, _has_}
-use Rattle.flags.specs.Flags.{takenAs}
+use Rattle.flag_order.specs.FlagOrder.{takenAs}
 
 faults : (a b c : Bool) (rest : Flag) → cond a Berr (cond b Arlo (cond c Nackf rest)) ≡ cond ((a || b) || c) (cond a Berr (cond b Arlo Nackf)) rest
 faults true b c rest = refl

@@ -1,9 +1,9 @@
--- `registers::cr2::Cr2::started` meets its contract: its fields are put one after the other.
+-- `cr2::Cr2::started` meets its contract: its fields are put one after the other.
 use Rattle.fields.specs.Layout.{place, NBYTES}
 use Rattle.fields.specs.Words.{started}
 use Rattle.fields.proofs.FieldLaws.{put-low}
-use Rattle.registers.proofs.cr2.Cr2.started.Statement.{statement}
-use Rattle.registers.proofs.cr2.Cr2.started.Tie as tie
+use Rattle.cr2.proofs.Cr2.started.Statement.{statement}
+use Rattle.cr2.proofs.Cr2.started.Tie as tie
 
 returns : tie.Need-returns
 unfolding started
