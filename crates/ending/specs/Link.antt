@@ -1,8 +1,7 @@
 -- The link of the non-blocking driver, and what the calls do to it.
-use Prim.Native.Nat.{ℕ, _+_, _-_}
-use mathlib.Core.Bool.{Bool, cond}
+use Prim.Native.Nat.{ℕ}
+use mathlib.Core.Bool.{Bool}
 use mathlib.Core.List.{List}
-use lib.Dec.{ltb}
 use lib.ListN.{replicate}
 use Rattle.limits.specs.Limits.{impossibleAt}
 
