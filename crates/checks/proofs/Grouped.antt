@@ -3,7 +3,7 @@ use mathlib.Core.Path.{_≡_, refl}
 use mathlib.Core.List.{[], _∷_}
 use denote.Enum.Declared.{tagOf}
 use types.Run.{OneOf, miss}
-use Rattle.flags.proofs.Flag.{the-type}
+use Rattle.flag_order.proofs.Flag.{the-type}
 use Rattle.flag_order.specs.declared.Flag.{Flag}
 use Rattle.flag_order.specs.declared.Flag.the-variants.{Berr, Arlo, Nackf, Txis, Rxne, Stopf, Tc, Tcr, Addr, Nothing}
 use Rattle.checks.specs.Rest.{rest}

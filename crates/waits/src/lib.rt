@@ -1,7 +1,7 @@
 // `busy_wait`: the flag that a call waits for, and the phase that each flag leads to.
 // A wait is told the kind of the call, and whether a byte is left to send or a place to fill (`more`).
 ghost use mathlib.Core.Path.{_≡_};
-ghost use Rattle.waits.specs.Waits.{tcWait, wanted, compared, found, afterFound};
+ghost use Rattle.waits.specs.Waits.{wanted, compared, found, afterFound};
 use phases::End;
 use phases::Kind;
 use phases::Phase;
@@ -10,24 +10,17 @@ use wanted::Wanted;
 
 pub mod flush;
 
-// Whether it is the wait for TC: a `write_read` has sent its bytes.
-fn tc_wait(kind: Kind, more: bool) -> bool
-    ensures { λ r. ⌜ r ≡ tcWait kind more ⌝ }
-{
-    if more {
-        return false;
-    }
-    kind.restarts()
-}
-
-// The flag that is waited for.
+// The flag that is waited for: TC where a `write_read` has sent its bytes.
 pub fn wanted(kind: Kind, more: bool) -> Wanted
     ensures { λ r. ⌜ r ≡ wanted kind more ⌝ }
 {
     if kind.incoming() {
         return Wanted::Rxne;
     }
-    if tc_wait(kind, more) {
+    if more {
+        return Wanted::Txis;
+    }
+    if kind.restarts() {
         return Wanted::Tc;
     }
     Wanted::Txis
@@ -37,7 +30,10 @@ pub fn wanted(kind: Kind, more: bool) -> Wanted
 pub fn compared(kind: Kind, more: bool, span: usize) -> usize
     ensures { λ r. ⌜ r ≡ compared kind more span ⌝ }
 {
-    if tc_wait(kind, more) {
+    if more {
+        return span;
+    }
+    if kind.restarts() {
         return 254;
     }
     span
