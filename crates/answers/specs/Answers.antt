@@ -3,8 +3,6 @@ use Prim.Native.Nat.{ℕ}
 use mathlib.Core.List.{List, [], _∷_}
 use Rattle.answers.specs.declared.Answer.{Answer}
 use Rattle.answers.specs.declared.Answer.the-variants.{Done, Pending, Nack, BusError, ArbitrationLost, IncorrectFrameSize, BadLength, NoRate, BadFilter, OutOfWords, LogFull, WrongCall, ImpossibleLink, Data, Addressed, Errors, Address, Bytes}
-use Rattle.answers.specs.declared.I2cDirection.{I2cDirection}
-use Rattle.answers.specs.declared.I2cDirection.the-variants.{MasterReadSlaveWrite, MasterWriteSlaveRead}
 
 pub record Said : Type 0 where
   pub number : ℕ
@@ -12,11 +10,6 @@ pub record Said : Type 0 where
 
 abbrev pub says : ℕ → List ℕ → Said
 says n xs = record { number = n; values = xs }
-
--- 0 when DIR is set, else 1
-abbrev pub directionNumber : I2cDirection → ℕ
-directionNumber MasterReadSlaveWrite = 0
-directionNumber MasterWriteSlaveRead = 1
 
 -- Data, Addressed and what a getter answers have a letter in place of a number, and its code here: `D`, `A`, `E`, `N`, `G`
 abbrev pub said : Answer → Said
@@ -33,8 +26,8 @@ said OutOfWords = says 9 []
 said LogFull = says 10 []
 said WrongCall = says 11 []
 said ImpossibleLink = says 12 []
-said (Data address direction count) = says 0x44 (address ∷ directionNumber direction ∷ count ∷ [])
-said (Addressed address direction) = says 0x41 (address ∷ directionNumber direction ∷ [])
+said (Data address direction count) = says 0x44 (address ∷ direction ∷ count ∷ [])
+said (Addressed address direction) = says 0x41 (address ∷ direction ∷ [])
 said (Errors count) = says 0x45 (count ∷ [])
 said (Address address) = says 0x4E (address ∷ [])
 said (Bytes count) = says 0x47 (count ∷ [])

@@ -1,23 +1,14 @@
 // The answers of a call.
 ghost use mathlib.Core.Path.{_≡_};
-ghost use Rattle.answers.specs.Answers.{said, directionNumber};
+ghost use Rattle.answers.specs.Answers.{said};
 
-pub enum I2cDirection {
-    MasterReadSlaveWrite,
-    MasterWriteSlaveRead,
-}
+// Who sends, by the number that document 01 and the Rust's enum give it. An enum inside an answer would be spelled out at each
+// step of every proof that holds an answer.
+pub type I2cDirection = u8;
 
-impl I2cDirection {
-    // 0 when the master reads, else 1.
-    pub fn number(self) -> u32
-        ensures { λ r. ⌜ r ≡ directionNumber self ⌝ }
-    {
-        match self {
-            I2cDirection::MasterReadSlaveWrite => 0,
-            I2cDirection::MasterWriteSlaveRead => 1,
-        }
-    }
-}
+pub const MASTER_READ_SLAVE_WRITE: I2cDirection = 0;
+
+pub const MASTER_WRITE_SLAVE_READ: I2cDirection = 1;
 
 pub enum Answer {
     Done,

@@ -1,8 +1,7 @@
 // The watchdog: after ten calls without an end of the transfer the unit is reset.
 ghost use mathlib.Core.Path.{_≡_};
-ghost use Prim.Native.Nat.{ℕ};
 ghost use mathlib.Core.Bool.{true, false};
-ghost use mathlib.Core.List.{List, [], _∷_};
+ghost use mathlib.Core.List.{[], _∷_};
 ghost use lib.ListN.{length as size, getD};
 ghost use Rattle.fields.specs.Words.{powered};
 ghost use Rattle.access.specs.Access.{settle, Reported};
@@ -11,30 +10,32 @@ ghost use Rattle.ending.specs.Link.{linkAt};
 ghost use Rattle.ending.specs.Call.{executeWatchdog};
 ghost use Rattle.ending.specs.Outcome.{outcome, Matches};
 use access::Report;
-use access::refused;
-use access::settle;
 use answers::Answer;
 use errors::impossible_link;
 use errors::one_more;
 use errors::out_of_words;
 use limits::impossible;
 use registers::cr1::Cr1;
+use settling::refused;
+use settling::settle;
 
-// `execute_watchdog` over a link's fields, lent one by one.
+// `execute_watchdog` over all of a link's fields, lent one by one.
 pub fn watchdog_fields(
+    address: &mut u16,
     watchdog: &mut u16,
-    index: usize,
-    length: usize,
+    index: &mut usize,
+    length: &mut usize,
     errors: &mut u32,
-    length_write_read: usize,
+    length_write_read: &mut usize,
+    data: &mut [u8; 255],
     words: &[u32],
     log: &mut [u32],
 ) -> Report
-    ensures { λ r. ⌜ ((a : ℕ) (d : List ℕ) → Matches (outcome (record { call = executeWatchdog; words = now (words .entry); places = size (now (log .entry)) }) (linkAt a (now (watchdog .entry)) index length (now (errors .entry)) «length_write_read» d)) r
-        (linkAt a (now (watchdog .exit)) index length (now (errors .exit)) «length_write_read» d) (now (log .entry)) (now (log .exit))) ⌝ }
+    ensures { λ r. ⌜ Matches (outcome (record { call = executeWatchdog; words = now (words .entry); places = size (now (log .entry)) }) (linkAt (now (address .entry)) (now (watchdog .entry)) (now (index .entry)) (now (length .entry)) (now (errors .entry)) (now («length_write_read» .entry)) (now («data» .entry)))) r
+        (linkAt (now (address .exit)) (now (watchdog .exit)) (now (index .exit)) (now (length .exit)) (now (errors .exit)) (now («length_write_read» .exit)) (now («data» .exit))) (now (log .entry)) (now (log .exit)) ⌝ }
 {
     let left = *watchdog;
-    if impossible(index, length, length_write_read, left) {
+    if impossible(*index, *length, *length_write_read, left) {
         return impossible_link();
     }
     if left == 0 {

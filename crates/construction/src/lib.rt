@@ -8,9 +8,6 @@ ghost use Rattle.answers.specs.Answers.{says};
 ghost use Rattle.construction.specs.SetUp.{setUp, setUpAccesses, own, firstWritten};
 ghost use mathlib.Core.List.{[]};
 use access::Report;
-use access::refused;
-use access::settle;
-use access::word_at;
 use answers::Answer;
 use config::Config;
 use config::Timing;
@@ -18,6 +15,9 @@ use registers::cr1::Cr1;
 use registers::oar::Oar1;
 use registers::oar::Oar2;
 use registers::timingr::Timingr;
+use settling::refused;
+use settling::settle;
+use settling::word_at;
 
 // Sets the unit up as the configuration says. `oar1` is the driver's own reading of the first own address.
 pub fn set_up(config: Config, clock: u32, oar1: u32, words: &[u32], log: &mut [u32]) -> Report

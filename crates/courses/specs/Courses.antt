@@ -31,6 +31,10 @@ use Rattle.courses.specs.declared.Close.the-variants.{NoWord, Asks, Stop
 abbrev pub fresh : Parked → Progress
 fresh p = record { turn = Again; parked = p; taken = 0; logged = 0 }
 
+-- the call as one of another kind: a `write_read` becomes a `ReadBack`
+abbrev pub asKind : Kind → Parked → Parked
+asKind k p = record { kind = k; address = p .address; send = p .send; receive = p .receive; phase = p .phase; count = p .count }
+
 -- a call came to its wait, or nothing was done
 pub record Opens (t : Bool) (s ws log b : List ℕ) (p : Parked) (m : Moved) (log′ b′ : List ℕ) : Type 0 where
   pub yes : t ≡ true → Carried s ws log b (fresh p) log′ b′ (waiting p m)
@@ -45,10 +49,8 @@ Restarted true awaited address receive ws t g log log′ =
 Restarted false awaited address receive ws t g log log′ = log′ ≡ log
 
 -- the second half began, or nothing was done; the slices are the same
-pub record Turns (ws log : List ℕ) (p : Parked) (m : Moved) (log′ : List ℕ) (r : Half) : Type 0 where
-  pub carried : (s b : List ℕ) → Carried s ws log b (waiting p m) log′ b (waiting (r .parked) (r .moved))
-  pub sends : r .parked .send ≡ p .send
-  pub receives : r .parked .receive ≡ p .receive
+abbrev pub Turns : List ℕ → List ℕ → Parked → Moved → List ℕ → Half → Type 0
+Turns ws log p m log′ r = (s b : List ℕ) → Carried s ws log b (waiting p m) log′ b (waiting (asKind (r .kind) p) (r .moved))
 
 -- the last word asks for a byte that is heard, or nothing was done
 abbrev pub Asked : Bool → Bool → List ℕ → ℕ → ℕ → List ℕ → List ℕ → Type 0

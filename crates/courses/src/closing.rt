@@ -5,7 +5,7 @@ ghost use mathlib.Core.Bool.{true, cond};
 ghost use lib.ListN.{length};
 ghost use Rattle.fields.specs.Layout.{RXNE, _has_};
 ghost use Rattle.phases.specs.Kinds.{incoming};
-ghost use Rattle.courses.specs.Courses.{Asked, Stopped, Quiet, Closes, turnOf, phaseOf, closedAt};
+ghost use Rattle.courses.specs.Courses.{Asked, Stopped, Quiet, Closes, turnOf, phaseOf, asKind, closedAt};
 use crate::Close;
 use crate::Place;
 use crate::opening::hears;
@@ -165,10 +165,9 @@ fn phase_of(close: Close) -> Phase
 }
 
 // The call where it is.
-pub(crate) fn closed(call: Parked, count: usize, c: Place) -> Progress
-    ensures { λ r. ⌜ r ≡ closedAt (c .close) call count (c .taken) (c .logged) ⌝ }
+pub(crate) fn closed(call: Parked, kind: Kind, count: usize, c: Place) -> Progress
+    ensures { λ r. ⌜ r ≡ closedAt (c .close) (asKind kind call) count (c .taken) (c .logged) ⌝ }
 {
-    let kind = call.kind;
     let close = c.close;
     Progress {
         turn: turn_of(close),

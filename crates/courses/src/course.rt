@@ -15,7 +15,6 @@ use cr2::Cr2;
 use flags::Isr;
 use parked::Kind;
 use parked::Parked;
-use parked::Phase;
 use polls::put_at;
 use stretches::Moved;
 use stretches::Progress;
@@ -109,14 +108,7 @@ fn turned(call: Parked, m: Moved, words: &[u32], log: &mut [u32]) -> Half
         log,
     ) {
         return Half {
-            parked: Parked {
-                kind: Kind::ReadBack,
-                address: call.address,
-                send: call.send,
-                receive: call.receive,
-                phase: Phase::Wait,
-                count: 0,
-            },
+            kind: Kind::ReadBack,
             moved: Moved {
                 count: 0,
                 taken: taken + 1,
@@ -124,10 +116,7 @@ fn turned(call: Parked, m: Moved, words: &[u32], log: &mut [u32]) -> Half
             },
         };
     }
-    Half {
-        parked: call,
-        moved: m,
-    }
+    Half { kind, moved: m }
 }
 
 // A call that waits: its bytes out, its second half, its bytes in, and its end.
@@ -145,12 +134,11 @@ fn through(
     let kind = call.kind;
     let out = sent(kind, m, send, words, log);
     let half = turned(call, out, words, log);
-    let next = half.parked;
     let begun = half.moved;
-    let then = next.kind;
+    let then = half.kind;
     let done = heard(then, begun, receive, words, log);
-    let place = closing(then, next.receive, done, words, log);
-    closed(next, done.count, place)
+    let place = closing(then, call.receive, done, words, log);
+    closed(call, then, done.count, place)
 }
 
 // Whether the slices have the lengths that the call was begun with.

@@ -1,6 +1,6 @@
 // A call that is not wrong, as far as it follows plainly: its opening, its bytes, its second half and its stop, made at once on plain numbers.
 // Whatever else comes is left to the transfer loop.
-use parked::Parked;
+use parked::Kind;
 use stretches::Moved;
 
 mod closing;
@@ -13,9 +13,9 @@ pub struct Opened {
     pub moved: Moved,
 }
 
-// A call that waits, and how far it is.
+// What kind of call waits now, and how far it is.
 pub struct Half {
-    pub parked: Parked,
+    pub kind: Kind,
     pub moved: Moved,
 }
 

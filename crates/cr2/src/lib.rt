@@ -5,7 +5,6 @@ ghost use mathlib.Core.Bool.{true, false};
 ghost use Rattle.fields.specs.Layout.{ADD10, _has_};
 ghost use Rattle.fields.specs.Words.{started, sized, refused, stopped, starting, sadd8, sadd16};
 use fields::Field;
-use fields::low_byte;
 
 pub struct Cr2;
 
@@ -89,12 +88,12 @@ impl Cr2 {
         Cr2::ADD10.is_set(cr2)
     }
 
-    // The word of a start: a write without `autoend` is the first half of a `write_read`.
+    // The word of a start: a write without `autoend` is the first half of a `write_read`. NBYTES has a length's low 8 bits, as the Rust casts it.
     pub fn started(cr2: u32, sadd: u32, nbytes: usize, read: bool, autoend: bool) -> u32
         ensures { λ r. ⌜ r ≡ started cr2 sadd nbytes read autoend ⌝ }
     {
         let start = Cr2::START.put(cr2, 1);
-        let length = Cr2::NBYTES.put(start, low_byte(nbytes));
+        let length = Cr2::NBYTES.put(start, (nbytes % 256) as u32);
         let address = Cr2::SADD.put(length, sadd);
         let direction = Cr2::RD_WRN.switch(address, read);
         let end = Cr2::AUTOEND.switch(direction, autoend);
@@ -105,7 +104,7 @@ impl Cr2 {
     pub fn sized(cr2: u32, nbytes: usize, reload: bool) -> u32
         ensures { λ r. ⌜ r ≡ sized cr2 nbytes reload ⌝ }
     {
-        let length = Cr2::NBYTES.put(cr2, low_byte(nbytes));
+        let length = Cr2::NBYTES.put(cr2, (nbytes % 256) as u32);
         Cr2::RELOAD.switch(length, reload)
     }
 

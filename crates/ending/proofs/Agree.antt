@@ -16,7 +16,7 @@ use Rattle.ending.specs.Link.{Link}
 use Rattle.ending.specs.Link.{Common, linkOf}
 use Rattle.ending.specs.Plan.{raised}
 use Rattle.ending.specs.Book.{Book, Receiving, closed, byRead, byBus, isOpen, empty, written, opened, putAt, filled, told, risen}
-use Rattle.ending.proofs.Lists.{none-some, set-same, over-put, element, take-same, in-front, front-at}
+use Rattle.access.proofs.Lists.{none-some, set-same, over-put, element, take-same, in-front, front-at}
 
 -- a place of the book holds a byte
 abbrev pub Filled : (ℕ → Option ℕ) → ℕ → Type 0

@@ -17,7 +17,7 @@ use Rattle.ending.specs.Call.{Call, masterWrite, masterWriteRead, master
 use Rattle.ending.specs.Plan.{Plan, plan, onStart, goodLength, onSlaveWrite, onWatchdog, tells, shows, planOf}
 use Rattle.ending.specs.Book.{Book, Event, Receiving, closed, byRead, byBus, feed, clean}
 use Rattle.ending.specs.EqualEnding.{hide, hideShown, hideTold, Sourced}
-use Rattle.ending.proofs.Lists.{zeros-same, take-same}
+use Rattle.access.proofs.Lists.{zeros-same, take-same}
 use Rattle.ending.proofs.Agree.{Phase, Own, Agree, Twins, twins, own-over, with-errors, told-agree, both-at, front-same, opened-agree, written-agree}
 use Rattle.ending.proofs.OneCheck.{seenAs, flag-tail, nothing-shown}
 use Rattle.ending.proofs.Outcomes.{good-255}

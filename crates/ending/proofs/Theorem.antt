@@ -17,7 +17,7 @@ use Rattle.ending.specs.Plan.{Plan, onStart, goodLength, planOf}
 use Rattle.ending.specs.Outcome.{Outcome, settle, planAt, outcome}
 use Rattle.ending.specs.Book.{Book, Event, eventOf, byRead, blank, written, opened, isDone, isRefused, byRole, feed}
 use Rattle.ending.specs.EqualEnding.{ran, seen, compared, Clean, AllSourced, step, EqualEnding}
-use Rattle.ending.proofs.Lists.{zeros-same}
+use Rattle.access.proofs.Lists.{zeros-same}
 use Rattle.ending.proofs.Agree.{Own, Twins, twins, own-over, opened-agree, written-agree}
 use Rattle.ending.proofs.OneCheck.{seenAs}
 use Rattle.ending.proofs.Outcomes.{good-255}

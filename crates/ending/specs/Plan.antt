@@ -12,7 +12,7 @@ use Rattle.limits.specs.Limits.{lengthAllowed}
 use Rattle.flag_order.specs.FlagOrder.{takenAs}
 use Rattle.flags.specs.Flags.{directionOf, addressCode}
 use Rattle.access.specs.Access.{Access, read, write, over}
-use Rattle.answers.specs.Answers.{Said, says, directionNumber}
+use Rattle.answers.specs.Answers.{Said, says}
 use Rattle.ending.specs.Link.{Link}
 use Rattle.limits.specs.Limits.{oneMore}
 use Rattle.ending.specs.Link.{Common, common, linkOf, begun, turned, atIndex, withWatchdog, addressed}
@@ -56,7 +56,7 @@ abbrev pub onStopf : Bool → ℕ → Link → Plan
 onStopf true isr l = plan (write ICR (cleared STOPF) ∷ []) 2 (changedWithError (withWatchdog 0 (common l)) l)
 onStopf false isr l = record {
   accesses = write ICR (cleared STOPF) ∷ [];
-  answer = says 0x44 (l .address ∷ directionNumber (directionOf isr) ∷ l .index ∷ []);
+  answer = says 0x44 (l .address ∷ directionOf isr ∷ l .index ∷ []);
   link = changed (withWatchdog 0 (common l)) l;
   shown = take (l .index) (l .«data»);
 }
@@ -85,13 +85,13 @@ onTc i v l = onTcAt (eqb i (l .length)) i v l
 abbrev pub onAddr : Bool → ℕ → ℕ → Link → Plan
 onAddr true isr v l = record {
   accesses = [];
-  answer = says 0x41 (addressCode isr ∷ directionNumber (directionOf isr) ∷ []);
+  answer = says 0x41 (addressCode isr ∷ directionOf isr ∷ []);
   link = changed (addressed (addressCode isr) (common l)) l;
   shown = [];
 }
 onAddr false isr v l = record {
   accesses = read CR2 v ∷ write CR2 (sized v 255 true) ∷ write ICR (cleared ADDR) ∷ [];
-  answer = says 0x41 (addressCode isr ∷ directionNumber (directionOf isr) ∷ []);
+  answer = says 0x41 (addressCode isr ∷ directionOf isr ∷ []);
   link = changed (begun (addressCode isr) 255) l;
   shown = [];
 }

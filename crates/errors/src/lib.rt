@@ -2,8 +2,8 @@
 ghost use mathlib.Core.Path.{_≡_};
 ghost use Rattle.limits.specs.Limits.{oneMore};
 use access::Report;
-use access::refused;
 use answers::Answer;
+use settling::refused;
 
 // One more error; the count stops at its top.
 pub fn one_more(errors: u32) -> u32

@@ -27,12 +27,12 @@ use denote.Struct.Steps.{spelt}
 use denote.Struct.Laws as LL
 use Rattle.nonblocking.proofs.Lending.{_≡_, refl, sym, subst, ap, ℕ, List, [], _∷_, URA, Val, Ty, Fn, Code, hasTy, WT, vptr, Is, id⊢, named, Memory, Routine, Fun, Calls, Loops, Frame, FmC, WpFn, Contract, Triple, Name as Symbol, SProp, ent, sep, Fml, Lft, Share, flft, fobor, fat, Heap, Atoms, sem, RefT}
 use Rattle.nonblocking.proofs.Lending.{Given, Item, ‵, raw, _⊛_, _$_, move, use1, split, join, fsplit, fsplit3, fjoin, drop, frame, done, Goal, Soaks, Seq, Step, step, owned, peeks, shows, link-val, link-fits, load, from, hop, fld, stop, report-val, report-makes, told}
-use Rattle.nonblocking.specs.declared.link.Link.{Link}
-use Rattle.nonblocking.specs.declared.link.Called.{Called}
-use Rattle.nonblocking.proofs.link.Link as L
-use Rattle.nonblocking.proofs.link.Link.Laws as L′
-use Rattle.nonblocking.proofs.link.Called as R
-use Rattle.nonblocking.proofs.link.Called.Laws as R′
+use Rattle.nonblocking.specs.declared.Link.{Link}
+use Rattle.nonblocking.specs.declared.Called.{Called}
+use Rattle.nonblocking.proofs.Link as L
+use Rattle.nonblocking.proofs.Link.Laws as L′
+use Rattle.nonblocking.proofs.Called as R
+use Rattle.nonblocking.proofs.Called.Laws as R′
 use Rattle.access.proofs.Report as P
 use Rattle.access.proofs.Report.Laws as P′
 use Rattle.flat.specs.Out.{flat as six}

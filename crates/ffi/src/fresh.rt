@@ -3,7 +3,7 @@ ghost use Rattle.flat.specs.Configured.{configOf};
 ghost use Rattle.ffi.specs.Renewed.{Renewed};
 use access::Report;
 use flat::configured::config_of;
-use nonblocking::link::Link;
+use nonblocking::Link;
 
 pub fn construct(
     link: &mut Link,

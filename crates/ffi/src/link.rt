@@ -14,7 +14,7 @@ use flat::out::put_checked;
 use flat::out::put_errors;
 use flat::out::put_offered;
 use flat::out::put_started;
-use nonblocking::link::Link;
+use nonblocking::Link;
 
 #[no_mangle]
 pub extern "C" fn i2c_check_isr_flags(

@@ -7,7 +7,7 @@ ghost use Rattle.ending.specs.Outcome.{outcome, Matches};
 ghost use Rattle.nonblocking.specs.Model.{model};
 ghost use Rattle.flat.specs.Out.{Out};
 use flat::out::put;
-use nonblocking::link::Link;
+use nonblocking::Link;
 
 #[no_mangle]
 pub extern "C" fn i2c_master_get_data(link: &Link, out: &mut [u64; 6])

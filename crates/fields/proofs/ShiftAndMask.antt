@@ -18,6 +18,12 @@ at p n = record { place = p; width = n }
 pub bit-is : (k : ℕ) → k < 32 → 1 * 2 ^ k % 2 ^ 32 ≡ 2 ^ k
 bit-is k h = rw one-mul (mod-eq-of-lt (pow-lt h))
 
+-- all ones from bit `p` on, shifted down
+pub ones-above : (p : ℕ) → p < 32 → (2 ^ 32 - 1) / 2 ^ p ≡ 2 ^ (32 - p) - 1
+ones-above p h =
+    let e : 32 - p + p ≡ 32 = omega arith in
+    subst (λ (n : ℕ). (2 ^ n - 1) / 2 ^ p ≡ 2 ^ (32 - p) - 1) e (rw (ones-split (32 - p) p) (high (2 ^ (32 - p) - 1) p (ones-lt p)))
+
 -- two runs of digits, one after the other
 join-lt : (j k : ℕ) {hi lo : ℕ} → hi < 2 ^ j → lo < 2 ^ k → hi * 2 ^ k + lo < 2 ^ (j + k)
 join-lt j k {hi} {lo} h l =

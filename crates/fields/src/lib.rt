@@ -1,6 +1,6 @@
 // A field of a 32-bit register word: got, put and cleared by shift and mask.
 ghost use mathlib.Core.Path.{_≡_};
-ghost use Prim.Native.Nat.{_-_, _%_, _<_, _≤_, _^_, min};
+ghost use Prim.Native.Nat.{_-_, _<_, _^_, min};
 ghost use Rattle.fields.specs.Field.{digit, get, put, isSet};
 
 // The `width` bits of a word from bit `place` on.
@@ -9,25 +9,16 @@ pub struct Field {
     pub width: u32,
 }
 
-// The low `width` bits of a word set.
-fn ones(width: u32) -> u32
-    requires { ⌜ width ≤ 32 ⌝ }
-    ensures { λ r. ⌜ r ≡ 2 ^ width - 1 ⌝ }
-{
-    if width == 32 {
-        return 0xFFFF_FFFF;
-    }
-    (1u32 << width) - 1
-}
-
 impl Field {
-    // The field's bits that lie in the word.
-    fn inside(self) -> u32
+    // As many low bits set as the field has in the word.
+    fn mask(self) -> u32
         requires { ⌜ self .place < 32 ⌝ }
-        ensures { λ r. ⌜ r ≡ min (self .width) (32 - self .place) ⌝ }
+        ensures { λ r. ⌜ r ≡ 2 ^ min (self .width) (32 - self .place) - 1 ⌝ }
     {
-        let left = 32 - self.place;
-        if self.width < left { self.width } else { left }
+        if self.width < 32 - self.place {
+            return (1u32 << self.width) - 1;
+        }
+        0xFFFF_FFFF >> self.place
     }
 
     // The field's value. Bits past the word's end read as 0.
@@ -37,7 +28,7 @@ impl Field {
         if 32 <= self.place {
             return 0;
         }
-        (word >> self.place) & ones(self.inside())
+        (word >> self.place) & self.mask()
     }
 
     // The word with the value's low bits in the field. Bits past the word's end are lost.
@@ -47,7 +38,7 @@ impl Field {
         if 32 <= self.place {
             return word;
         }
-        let mask = ones(self.inside());
+        let mask = self.mask();
         (word & !(mask << self.place)) | ((value & mask) << self.place)
     }
 
@@ -58,7 +49,7 @@ impl Field {
         if 32 <= self.place {
             return word;
         }
-        word & !(ones(self.inside()) << self.place)
+        word & !(self.mask() << self.place)
     }
 
     // The word with a field of one bit set or cleared.
@@ -77,11 +68,4 @@ impl Field {
     {
         self.get(word) == 1
     }
-}
-
-// The low 8 bits of a length, as the Rust casts it for NBYTES.
-pub fn low_byte(length: usize) -> u32
-    ensures { λ r. ⌜ r ≡ length % 256 ⌝ }
-{
-    (length % 256) as u32
 }

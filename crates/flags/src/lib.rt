@@ -4,6 +4,8 @@ ghost use Rattle.fields.specs.Field.{put};
 ghost use Rattle.fields.specs.Words.{flushed};
 ghost use Rattle.flags.specs.Flags.{directionOf, addressCode};
 use answers::I2cDirection;
+use answers::MASTER_READ_SLAVE_WRITE;
+use answers::MASTER_WRITE_SLAVE_READ;
 use fields::Field;
 
 pub struct Isr;
@@ -50,9 +52,9 @@ impl Isr {
         ensures { λ r. ⌜ r ≡ directionOf isr ⌝ }
     {
         if Isr::DIR.is_set(isr) {
-            return I2cDirection::MasterReadSlaveWrite;
+            return MASTER_READ_SLAVE_WRITE;
         }
-        I2cDirection::MasterWriteSlaveRead
+        MASTER_WRITE_SLAVE_READ
     }
 
     // The address by which this slave was addressed.

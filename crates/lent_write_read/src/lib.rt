@@ -1,4 +1,4 @@
-// `master_write_read` over all of a link's fields, lent one by one. The other calls are in `lent_slave` and `lent_fields`.
+// `master_write_read` over all of a link's fields, lent one by one. The other starts are in `starts`.
 ghost use lib.ListN.{length as size};
 ghost use Rattle.ending.specs.Call.{masterWriteRead};
 ghost use Rattle.ending.specs.Link.{linkAt};

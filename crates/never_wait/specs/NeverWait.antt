@@ -1,24 +1,14 @@
--- The calls that never wait. They follow the non-blocking rule for 9 and 10: a refusal has no accesses. A missing word reads as 0.
+-- The calls that never wait, but `slave_addressed`, which is in `addressed`. They follow the non-blocking rule for 9 and 10: a refusal has no accesses. A missing word reads as 0.
 use Prim.Native.Nat.{ℕ}
-use mathlib.Core.Bool.{Bool, true, false, cond}
+use mathlib.Core.Bool.{Bool}
 use mathlib.Core.List.{List, [], _∷_}
 use lib.ListN.{length, getD}
-use Rattle.answers.specs.Answers.{Said, says, directionNumber}
+use Rattle.answers.specs.Answers.{says}
 use Rattle.access.specs.Access.{Access, read, write, Settled, settled}
-use Rattle.fields.specs.Layout.{CR1, ISR, ICR, ADDR, _has_}
+use Rattle.fields.specs.Layout.{CR1, ICR, ADDR}
 use Rattle.fields.specs.Words.{byteControl, addressInterrupt, receiveInterrupt, cleared}
-use Rattle.flags.specs.Flags.{addressCode, directionOf}
 use Rattle.never_wait.specs.declared.Event.{Event}
 use Rattle.never_wait.specs.declared.Event.the-variants.{AddressMatch, Rxne}
-
--- ADDR in the first read: code and direction are those of the second; else pending
-abbrev pub slaveAddressed : List ℕ → ℕ → Settled
-slaveAddressed words places =
-    let w : ℕ = getD words 0 0 in
-    let v : ℕ = getD words 1 0 in
-    cond (w has ADDR)
-    (settled (says 0x41 (addressCode v ∷ directionNumber (directionOf v) ∷ [])) (read ISR w ∷ read ISR v ∷ []) (length words) places)
-    (settled (says 1 []) (read ISR w ∷ []) (length words) places)
 
 -- a `modify` of CR1
 abbrev pub modified : (ℕ → ℕ) → List ℕ → ℕ → Settled

@@ -6,12 +6,12 @@ ghost use mathlib.Core.Path.{_≡_};
 ghost use mathlib.Core.Bool.{Bool};
 use crate::Event;
 use access::Report;
-use access::settle;
-use access::word_at;
 use answers::Answer;
 use flags::Icr;
 use flags::Isr;
 use registers::cr1::Cr1;
+use settling::settle;
+use settling::word_at;
 
 impl Event {
     // The event's interrupt switched in CR1.

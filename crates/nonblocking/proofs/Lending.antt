@@ -42,13 +42,13 @@ use denote.Memory.{mem, cellAt}
 use denote.Struct.Steps.{spelt}
 use denote.Triple.Table.{entered, cited}
 use Rattle.access.specs.declared.Report.{Report}
-pub use Rattle.nonblocking.specs.declared.link.Link.{Link}
-pub use Rattle.nonblocking.specs.declared.link.Called.{Called}
+pub use Rattle.nonblocking.specs.declared.Link.{Link}
+pub use Rattle.nonblocking.specs.declared.Called.{Called}
 use denote.Struct.Laws as LL
-use Rattle.nonblocking.proofs.link.Link as L
-use Rattle.nonblocking.proofs.link.Link.Laws as L′
-use Rattle.nonblocking.proofs.link.Called as R
-use Rattle.nonblocking.proofs.link.Called.Laws as R′
+use Rattle.nonblocking.proofs.Link as L
+use Rattle.nonblocking.proofs.Link.Laws as L′
+use Rattle.nonblocking.proofs.Called as R
+use Rattle.nonblocking.proofs.Called.Laws as R′
 use Rattle.access.proofs.Report as P
 use Rattle.access.proofs.Report.Laws as P′
 

@@ -22,8 +22,8 @@ use denote.Struct.Struct.{Struct}
 use denote.Struct.Members.{Member, rowsOf, partsAt}
 use denote.Struct.Parts.{shapeOf, PartsBack, struct-parts}
 use Rattle.nonblocking.proofs.Lending.{_≡_, refl, ap, subst, ℕ, List, [], _∷_, URA, Val, vptr, named, SProp, ent, sep, Fml, Lft, Share, ftrue, flft, GName, fobs, fauth, fbor, fobor, Heap, Atoms, sem, Given, Item, ‵, raw, _⊛_, some, later, _$_, move, use1, use2, split, join, pick, fsplit, fjoin, drop, nothing, await, Goal, Soaks, Seq, Step, step, RefT, MutRef}
-use Rattle.nonblocking.specs.declared.link.Link.{Link}
-use Rattle.nonblocking.proofs.link.Link as L
+use Rattle.nonblocking.specs.declared.Link.{Link}
+use Rattle.nonblocking.proofs.Link as L
 
 -- ---- a link in memory is its fields in memory, and back at any values
 abbrev Bytes : RattleType

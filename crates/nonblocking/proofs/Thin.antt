@@ -37,11 +37,11 @@ use Rattle.nonblocking.proofs.Lending.{owns, RefT, ptr-vals, mut-tells,
 use Rattle.nonblocking.proofs.Cells.{cells, frame-of, Blocks, rest-fit, stored, copies, All-have, Free, addresses, pointed, again, lent-again, Pointable, Lendable, has-put, put-in, starts, points-all, lends-again, hands, lands-in, returns-it, frees-all}
 use Rattle.nonblocking.proofs.Loans.{Names, Lasts, last-link, last-rest, Given-out, Tokens, Kept-back, Ended-at, lends, comes-back}
 use Rattle.access.specs.declared.Report.{Report}
-use Rattle.nonblocking.specs.declared.link.Link.{Link}
+use Rattle.nonblocking.specs.declared.Link.{Link}
 use Rattle.access.proofs.Report as P
 use Rattle.access.proofs.Report.Laws as P′
-use Rattle.nonblocking.proofs.link.Link as L
-use Rattle.nonblocking.proofs.link.Link.Laws as L′
+use Rattle.nonblocking.proofs.Link as L
+use Rattle.nonblocking.proofs.Link.Laws as L′
 
 -- what follows the link
 abbrev pub others : {X : Type 2} → List X → List X

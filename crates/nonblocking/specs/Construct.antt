@@ -7,7 +7,7 @@ use Rattle.access.specs.declared.Report.{Report}
 use Rattle.config.specs.declared.Config.{Config}
 use Rattle.access.specs.Access.{Reported}
 use Rattle.construction.specs.Drivers.{nonBlockingConstruction}
-use Rattle.nonblocking.specs.declared.link.Link.{Link}
+use Rattle.nonblocking.specs.declared.Link.{Link}
 use Rattle.nonblocking.specs.Model.{model}
 use Rattle.ending.specs.Link.{fresh}
 

@@ -3,8 +3,8 @@ ghost use lib.ListN.{length as size};
 ghost use Rattle.ending.specs.Call.{checkIsrFlags};
 ghost use Rattle.nonblocking.specs.Model.{model};
 ghost use Rattle.ending.specs.Outcome.{outcome, Matches};
-use crate::link::Called;
-use crate::link::Link;
+use crate::Called;
+use crate::Link;
 use checks::check_fields;
 
 impl Link {

@@ -8,41 +8,47 @@ ghost use Rattle.ending.specs.Plan.{interruptPlan};
 ghost use Rattle.ending.specs.Call.{listen, unlisten, executeWatchdog, getErrorsReset};
 ghost use Rattle.nonblocking.specs.Model.{model};
 ghost use Rattle.ending.specs.Outcome.{outcome, settled, Matches};
-use crate::link::Called;
-use crate::link::Link;
-use access::settle;
-use access::word_at;
+use crate::Called;
+use crate::Link;
 use answers::Answer;
 use checks::watchdog::watchdog_fields;
 use errors::impossible_link;
 use limits::impossible;
 use registers::cr1::Cr1;
+use settling::settle;
+use settling::word_at;
 
 impl Link {
     // To be called every tenth of a second, if at all: after ten calls without an end of the transfer the unit is reset.
     pub fn execute_watchdog(self, words: &[u32], log: &mut [u32]) -> Called
         ensures { λ r. ⌜ Matches (outcome (record { call = executeWatchdog; words = now (words .entry); places = size (now (log .entry)) }) (model self)) (r .report) (model (r .link)) (now (log .entry)) (now (log .exit)) ⌝ }
     {
+        let mut address = self.address;
         let mut watchdog = self.watchdog;
+        let mut index = self.index;
+        let mut length = self.length;
         let mut errors = self.errors;
-        let data = self.data;
+        let mut length_write_read = self.length_write_read;
+        let mut data = self.data;
         let report = watchdog_fields(
+            &mut address,
             &mut watchdog,
-            self.index,
-            self.length,
+            &mut index,
+            &mut length,
             &mut errors,
-            self.length_write_read,
+            &mut length_write_read,
+            &mut data,
             words,
             log,
         );
         Called {
             link: Link {
-                address: self.address,
+                address,
                 watchdog,
-                index: self.index,
-                length: self.length,
+                index,
+                length,
                 errors,
-                length_write_read: self.length_write_read,
+                length_write_read,
                 data,
             },
             report,

@@ -8,12 +8,12 @@ ghost use Rattle.nonblocking.specs.Model.{model};
 ghost use Rattle.ending.specs.Outcome.{outcome, refusal12, Matches};
 ghost use Rattle.ending.specs.Link.{impossible};
 ghost use mathlib.Core.Bool.{cond};
-use crate::link::Called;
-use crate::link::Link;
-use access::refused;
+use crate::Called;
+use crate::Link;
 use answers::Answer;
 use errors::impossible_link;
 use limits::impossible;
+use settling::refused;
 
 impl Link {
     // Shows as many bytes as the last transfer was to have.

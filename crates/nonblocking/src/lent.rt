@@ -5,9 +5,14 @@ ghost use lib.ListN.{length as size};
 ghost use Rattle.ending.specs.Call.{checkIsrFlags, masterWrite, masterWriteRead, masterRead, slaveWrite, executeWatchdog, getErrorsReset};
 ghost use Rattle.ending.specs.Outcome.{outcome, Matches};
 ghost use Rattle.nonblocking.specs.Model.{model};
-use crate::link::Link;
+use crate::Link;
 use access::Report;
 use checks::check_fields;
+use checks::watchdog::watchdog_fields;
+use lent_write_read::write_read;
+use starts::master::read_fields;
+use starts::master::write;
+use starts::slave::slave_write_fields;
 
 // `check_isr_flags` on a lent link.
 pub fn check_isr_flags(link: &mut Link, words: &[u32], log: &mut [u32]) -> Report
@@ -36,7 +41,7 @@ pub fn master_write(
 ) -> Report
     ensures { λ r. ⌜ Matches (outcome (record { call = masterWrite addr (now (bytes .entry)); words = now (words .entry); places = size (now (log .entry)) }) (model (now (link .entry)))) r (model (now (link .exit))) (now (log .entry)) (now (log .exit)) ⌝ }
 {
-    lent_fields::write(
+    write(
         &mut link.address,
         &mut link.watchdog,
         &mut link.index,
@@ -62,7 +67,7 @@ pub fn master_write_read(
 ) -> Report
     ensures { λ r. ⌜ Matches (outcome (record { call = masterWriteRead addr (now (bytes .entry)) «read_len»; words = now (words .entry); places = size (now (log .entry)) }) (model (now (link .entry)))) r (model (now (link .exit))) (now (log .entry)) (now (log .exit)) ⌝ }
 {
-    lent_write_read::write_read(
+    write_read(
         &mut link.address,
         &mut link.watchdog,
         &mut link.index,
@@ -88,7 +93,7 @@ pub fn master_read(
 ) -> Report
     ensures { λ r. ⌜ Matches (outcome (record { call = masterRead addr «read_len»; words = now (words .entry); places = size (now (log .entry)) }) (model (now (link .entry)))) r (model (now (link .exit))) (now (log .entry)) (now (log .exit)) ⌝ }
 {
-    lent_fields::read(
+    read_fields(
         &mut link.address,
         &mut link.watchdog,
         &mut link.index,
@@ -107,7 +112,7 @@ pub fn master_read(
 pub fn slave_write(link: &mut Link, bytes: &[u8], words: &[u32], log: &mut [u32]) -> Report
     ensures { λ r. ⌜ Matches (outcome (record { call = slaveWrite (now (bytes .entry)); words = now (words .entry); places = size (now (log .entry)) }) (model (now (link .entry)))) r (model (now (link .exit))) (now (log .entry)) (now (log .exit)) ⌝ }
 {
-    lent_slave::slave_write(
+    slave_write_fields(
         &mut link.address,
         &mut link.watchdog,
         &mut link.index,
@@ -125,7 +130,7 @@ pub fn slave_write(link: &mut Link, bytes: &[u8], words: &[u32], log: &mut [u32]
 pub fn execute_watchdog(link: &mut Link, words: &[u32], log: &mut [u32]) -> Report
     ensures { λ r. ⌜ Matches (outcome (record { call = executeWatchdog; words = now (words .entry); places = size (now (log .entry)) }) (model (now (link .entry)))) r (model (now (link .exit))) (now (log .entry)) (now (log .exit)) ⌝ }
 {
-    lent_fields::execute_watchdog(
+    watchdog_fields(
         &mut link.address,
         &mut link.watchdog,
         &mut link.index,

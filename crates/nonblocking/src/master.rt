@@ -5,8 +5,8 @@ ghost use Rattle.ending.specs.Call.{masterWrite, masterWriteRead, masterRead};
 ghost use Rattle.ending.specs.Plan.{writeStart};
 ghost use Rattle.nonblocking.specs.Model.{model};
 ghost use Rattle.ending.specs.Outcome.{outcome, settled, Matches};
-use crate::link::Called;
-use crate::link::Link;
+use crate::Called;
+use crate::Link;
 use starts::master::read_fields;
 use starts::master::write_fields;
 
@@ -85,14 +85,16 @@ impl Link {
         let mut watchdog = self.watchdog;
         let mut index = self.index;
         let mut length = self.length;
-        let length_write_read = self.length_write_read;
+        let mut errors = self.errors;
+        let mut length_write_read = self.length_write_read;
         let mut data = self.data;
         let report = read_fields(
             &mut address,
             &mut watchdog,
             &mut index,
             &mut length,
-            length_write_read,
+            &mut errors,
+            &mut length_write_read,
             &mut data,
             addr,
             read_len,
@@ -105,7 +107,7 @@ impl Link {
                 watchdog,
                 index,
                 length,
-                errors: self.errors,
+                errors,
                 length_write_read,
                 data,
             },

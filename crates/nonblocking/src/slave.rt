@@ -3,15 +3,15 @@ ghost use lib.ListN.{length as size};
 ghost use Rattle.ending.specs.Call.{slaveWrite, slaveSbc, setAddress};
 ghost use Rattle.nonblocking.specs.Model.{model};
 ghost use Rattle.ending.specs.Outcome.{outcome, Matches};
-use crate::link::Called;
-use crate::link::Link;
-use access::settle;
-use access::word_at;
+use crate::Called;
+use crate::Link;
 use answers::Answer;
 use errors::impossible_link;
 use limits::impossible;
 use registers::cr1::Cr1;
 use registers::oar::Oar1;
+use settling::settle;
+use settling::word_at;
 use starts::slave::slave_write_fields;
 
 impl Link {
@@ -19,14 +19,20 @@ impl Link {
     pub fn slave_write(self, bytes: &[u8], words: &[u32], log: &mut [u32]) -> Called
         ensures { λ r. ⌜ Matches (outcome (record { call = slaveWrite (now (bytes .entry)); words = now (words .entry); places = size (now (log .entry)) }) (model self)) (r .report) (model (r .link)) (now (log .entry)) (now (log .exit)) ⌝ }
     {
+        let mut address = self.address;
+        let mut watchdog = self.watchdog;
         let mut index = self.index;
         let mut length = self.length;
+        let mut errors = self.errors;
+        let mut length_write_read = self.length_write_read;
         let mut data = self.data;
         let report = slave_write_fields(
-            self.watchdog,
+            &mut address,
+            &mut watchdog,
             &mut index,
             &mut length,
-            self.length_write_read,
+            &mut errors,
+            &mut length_write_read,
             &mut data,
             bytes,
             words,
@@ -34,12 +40,12 @@ impl Link {
         );
         Called {
             link: Link {
-                address: self.address,
-                watchdog: self.watchdog,
+                address,
+                watchdog,
                 index,
                 length,
-                errors: self.errors,
-                length_write_read: self.length_write_read,
+                errors,
+                length_write_read,
                 data,
             },
             report,

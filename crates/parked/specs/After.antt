@@ -3,7 +3,7 @@ use Prim.Native.Nat.{ℕ, _+_}
 use mathlib.Core.Bool.{Bool, false, cond}
 use mathlib.Core.List.{[], _∷_}
 use lib.Dec.{eqb}
-use Rattle.answers.specs.Answers.{Said, says, directionNumber}
+use Rattle.answers.specs.Answers.{Said, says}
 use Rattle.wanted.specs.declared.Wanted.{Wanted}
 use Rattle.wanted.specs.declared.Found.{Found}
 use Rattle.fields.specs.Layout.{TXE, TXIS, ADDR, _has_}
@@ -50,7 +50,7 @@ answer Berr p = says 3 []
 answer Arlo p = says 4 []
 answer Addr p = addrAnswer p
 answer Stopf p = stopAnswer p
-answer (Addressed isr) p = says 0x41 (addressCode isr ∷ directionNumber (directionOf isr) ∷ [])
+answer (Addressed isr) p = says 0x41 (addressCode isr ∷ directionOf isr ∷ [])
 
 -- the phase that a found flag leads to
 abbrev pub afterFound : Found → Parked → Phase

@@ -3,7 +3,9 @@ ghost use Prim.Native.Nat.{_≤_};
 use crate::Kept;
 use crate::waiting::play_waiting;
 use playing::outcome::Log;
-use playing::outcome::outcome_of;
+use playing::outcome::add_outcome;
+use playing::outcome::play;
+use print::buffer::Buffer;
 use script::Words;
 use script::calls::*;
 use script::parse::parse;
@@ -26,7 +28,7 @@ fn words_of<'a>(words: &'a [u32], slots: &Slots) -> &'a [u32] {
 
 // The log's places: as given, or so many that it never fills.
 fn places(slots: &Slots) -> usize {
-    if has(slots, LOG) {
+    if given(slots, LOG) == 1 {
         return number(slots, LOG) as usize;
     }
     number(slots, WORDS) as usize % 0x1_0000 * 4 + 6
@@ -49,30 +51,43 @@ fn play_call(
     match call {
         BL_WRITE..=BL_RESUME => play_waiting(kept, call, text, slots, given, lent, send, recv),
         _ => {
-            let before = kept.outcome;
-            let parked = kept.parked;
-            Kept {
-                outcome: outcome_of(before.link, call, text, slots, given, lent),
-                parked,
-                send: kept.send,
-                recv: kept.recv,
-            }
+            let before = kept.played;
+            let mut after = kept;
+            let played = play(before.link, call, text, slots, given, lent);
+            after.played = played;
+            after
         }
     }
 }
 
-// A line of so many characters. One that is too long has no part that is a call.
+// A line of so many characters, and its outcome, into `out`. One that is too long has no part that is a call.
 pub(crate) fn play_line(
     kept: Kept,
+    number: u64,
     line: &Text,
     count: usize,
     words: &mut Words,
     log: &mut Log,
     send: &mut Bytes,
     recv: &mut Bytes,
+    out: &mut Buffer,
 ) -> Kept {
-    let mut slots = [0u64; 56];
+    if count == 0 {
+        return kept;
+    }
+    let mut slots = [0u64; 54];
     let text = part(line, 0, count);
     let call = parse(text, words, &mut slots);
-    play_call(kept, call, text, &slots, words, log, send, recv)
+    let mut after = play_call(kept, call, text, &slots, words, log, send, recv);
+    after.used = add_outcome(
+        out,
+        after.used,
+        number,
+        call,
+        after.played,
+        log,
+        recv,
+        after.received,
+    );
+    after
 }

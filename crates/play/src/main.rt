@@ -1,16 +1,9 @@
 // Plays a script from standard input through both drivers, and prints the outcome of each line.
 // The gate lays its `stdin`, calls, and its `stdout`, what the original gave for them; with neither it prints nothing.
 use crate::line::play_line;
-use nonblocking::link::Link;
-use parked::End;
-use parked::Kind;
-use parked::Parked;
-use parked::Phase;
-use playing::outcome::Outcome;
-use playing::outcome::outcome_lines;
-use print::answer::told_bad_line;
+use nonblocking::Link;
+use playing::Played;
 use print::buffer::flush;
-use script::calls::BAD_LINE;
 use text::input::NO_LINE;
 use text::input::START;
 use text::input::next_line;
@@ -19,35 +12,27 @@ mod begun;
 mod line;
 mod waiting;
 
-// What is kept from line to line, beside the two lent slices, send and recv, of these lengths: what the line before came to,
-// with its link, and the parked call.
-// A parked call that has ended stands for none begun: both answer 11.
+// What is kept from line to line, beside the two lent slices, send and recv, of these lengths: what the line came to, with the link, the
+// parked call as seven numbers, and how much of the output is still to be written.
 struct Kept {
-    pub outcome: Outcome,
-    pub parked: Parked,
-    pub send: usize,
-    pub recv: usize,
+    pub played: Played,
+    pub parked: [u64; 7],
+    pub sent: usize,
+    pub received: usize,
+    pub used: usize,
 }
 
-// The link as constructed, and no call begun.
+// The link as constructed. A parked call that has ended, here by a bad length, stands for none begun: both answer 11.
 fn at_first() -> Kept {
     Kept {
-        outcome: Outcome {
-            call: BAD_LINE,
-            told: told_bad_line(),
-            logged: 0,
+        played: Played {
             link: Link::new(),
+            six: [0; 6],
         },
-        parked: Parked {
-            kind: Kind::Write,
-            address: 0,
-            send: 0,
-            receive: 0,
-            phase: Phase::Ended(End::BadLength),
-            count: 0,
-        },
-        send: 0,
-        recv: 0,
+        parked: [0, 0, 0, 0, 25, 0, 0],
+        sent: 0,
+        received: 0,
+        used: 0,
     }
 }
 
@@ -60,30 +45,27 @@ fn main() {
     let mut send = [0u8; 16384];
     let mut recv = [0u8; 16384];
     let mut out = io::large_buffer();
-    let mut used: usize = 0;
     let mut input = START;
     let mut kept = at_first();
     let mut number: u64 = 1;
     // No script has as many lines.
     while number < 18_446_744_073_709_551_615 {
         input = next_line(&mut buffer, input, &mut line);
-        let count = input.count;
-        if count == NO_LINE {
+        if input.count == NO_LINE {
             break;
         }
-        if 0 < count {
-            kept = play_line(
-                kept,
-                &line,
-                count,
-                &mut words,
-                &mut log,
-                &mut send,
-                &mut recv,
-            );
-            used = outcome_lines(&mut out, used, number, kept.outcome, &log, &recv, kept.recv);
-        }
+        kept = play_line(
+            kept,
+            number,
+            &line,
+            input.count,
+            &mut words,
+            &mut log,
+            &mut send,
+            &mut recv,
+            &mut out,
+        );
         number += 1;
     }
-    flush(&out, used);
+    flush(&out, kept.used);
 }

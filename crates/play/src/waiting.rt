@@ -1,8 +1,9 @@
 // A line of a blocking call that waits.
 use crate::Kept;
 use crate::begun::run_call;
-use playing::outcome::Outcome;
-use print::answer::told_answer;
+use flat::leave;
+use playing::Played;
+use runs::Ran;
 use script::calls::*;
 use script::parse::bytes_of;
 use script::slots::*;
@@ -18,10 +19,26 @@ fn length(
     bytes: &mut Bytes,
     kept: usize,
 ) -> usize {
-    if has(slots, slot) {
+    if given(slots, slot) == 1 {
         return bytes_of(text, slots, slot, bytes);
     }
     if call == BL_RESUME { kept } else { 0 }
+}
+
+// What is kept after a run, which leaves the link.
+fn left(kept: Kept, ran: Ran, sent: usize, received: usize) -> Kept {
+    let before = kept.played;
+    let link = before.link;
+    let mut parked = [0u64; 7];
+    let mut six = [0u64; 6];
+    leave(ran, &mut parked, &mut six);
+    Kept {
+        played: Played { link, six },
+        parked,
+        sent,
+        received,
+        used: kept.used,
+    }
 }
 
 pub(crate) fn play_waiting(
@@ -34,31 +51,18 @@ pub(crate) fn play_waiting(
     send: &mut Bytes,
     recv: &mut Bytes,
 ) -> Kept {
-    let sent = length(call, text, slots, SEND, send, kept.send);
-    let received = length(call, text, slots, RECV, recv, kept.recv);
+    let parked = kept.parked;
+    let sent = length(call, text, slots, SEND, send, kept.sent);
+    let received = length(call, text, slots, RECV, recv, kept.received);
     let ran = run_call(
-        kept.parked,
+        &parked,
         call,
-        byte(slots, ADDRESS_8),
+        (word(slots, ADDRESS_8) % 0x100) as u8,
         part(send, 0, sent),
         recv,
         received,
         words,
         log,
     );
-    let answer = ran.answer;
-    let parked = ran.parked;
-    let before = kept.outcome;
-    let link = before.link;
-    Kept {
-        outcome: Outcome {
-            call,
-            told: told_answer(answer),
-            logged: ran.logged,
-            link,
-        },
-        parked,
-        send: sent,
-        recv: received,
-    }
+    left(kept, ran, sent, received)
 }

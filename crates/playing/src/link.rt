@@ -1,10 +1,9 @@
 // The calls of the non-blocking driver.
 use crate::settings::configuration;
-use crate::settings::is_done;
-use access::refused;
+use settling::refused;
 use answers::Answer;
-use nonblocking::link::Called;
-use nonblocking::link::Link;
+use nonblocking::Called;
+use nonblocking::Link;
 use script::calls::*;
 use script::parse::bytes_of;
 use script::slots::*;
@@ -20,7 +19,7 @@ fn put(link: Link) -> Called {
 }
 
 fn value_or(slots: &Slots, slot: usize, old: u64) -> u64 {
-    if has(slots, slot) {
+    if given(slots, slot) == 1 {
         number(slots, slot)
     } else {
         old
@@ -54,54 +53,44 @@ fn set(link: Link, slots: &Slots, bytes: &[u8]) -> Link {
     }
 }
 
-// What a constructor comes to: a refusal leaves the link.
-fn taken(called: Called, link: Link) -> Called {
-    let report = called.report;
-    let answer = report.answer;
-    if is_done(answer) {
-        return called;
-    }
-    Called { link, report }
-}
-
-// `nb new`
+// `nb new`: a refusal, which logs nothing, leaves the link.
 fn construct(link: Link, slots: &Slots, words: &[u32], log: &mut [u32]) -> Called {
-    let filtered = configuration(slots);
-    let answer = filtered.answer;
-    if is_done(answer) {
-        return taken(
-            Link::i2c1(filtered.config, word(slots, CLOCK), words, log),
-            link,
-        );
+    let called = Link::i2c1(configuration(slots), word(slots, CLOCK), words, log);
+    let report = called.report;
+    if report.logged == 0 {
+        return Called { link, report };
     }
-    Called {
-        link,
-        report: refused(answer),
+    called
+}
+
+// The calls that make no access, and `nb reset`.
+fn unread(link: Link, call: Call) -> Called {
+    match call {
+        NB_ERRORS => link.get_errors_reset(),
+        NB_DATA_M => link.master_get_data(),
+        NB_DATA_S => link.slave_get_data(),
+        NB_ADDR_M | NB_ADDR_S => link.get_address(),
+        _ => put(Link::new()),
     }
 }
 
-// The bytes that a line gives.
-fn first(room: &Bytes, count: usize) -> &[u8] {
-    part(room, 0, count)
-}
-
-// The slot of the bytes that a line gives.
-fn given(slots: &Slots) -> usize {
-    if has(slots, DATA) { DATA } else { SEND }
-}
-
-// The calls that take no more than the words, those that make no access, and `nb reset`.
+// The calls that take no more than the words.
 fn simple(link: Link, call: Call, words: &[u32], log: &mut [u32]) -> Called {
     match call {
         NB_CHECK => link.check_isr_flags(words, log),
         NB_WATCHDOG => link.execute_watchdog(words, log),
         NB_LISTEN => link.listen(words, log),
         NB_UNLISTEN => link.unlisten(words, log),
-        NB_ERRORS => link.get_errors_reset(),
-        NB_DATA_M => link.master_get_data(),
-        NB_DATA_S => link.slave_get_data(),
-        NB_ADDR_M | NB_ADDR_S => link.get_address(),
-        _ => put(Link::new()),
+        _ => unread(link, call),
+    }
+}
+
+// The calls that take no bytes.
+fn without_bytes(link: Link, call: Call, slots: &Slots, words: &[u32], log: &mut [u32]) -> Called {
+    match call {
+        NB_NEW => construct(link, slots, words, log),
+        NB_SBC => link.slave_sbc(word(slots, SBC) != 0, words, log),
+        _ => simple(link, call, words, log),
     }
 }
 
@@ -114,19 +103,22 @@ fn link_call(
     words: &[u32],
     log: &mut [u32],
 ) -> Called {
-    let address = short(slots, ADDRESS_16);
-    let length = byte(slots, LENGTH);
+    let address = (word(slots, ADDRESS_16) % 0x1_0000) as u16;
+    let length = (word(slots, LENGTH) % 0x100) as u8;
     match call {
         NB_SET => put(set(link, slots, bytes)),
-        NB_NEW => construct(link, slots, words, log),
         NB_MASTER_WRITE => link.master_write(address, bytes, words, log),
         NB_MASTER_WRITE_READ => link.master_write_read(address, bytes, length, words, log),
         NB_MASTER_READ => link.master_read(address, length, words, log),
         NB_SLAVE_WRITE => link.slave_write(bytes, words, log),
-        NB_SBC => link.slave_sbc(number(slots, SBC) != 0, words, log),
         NB_SET_ADDRESS => link.set_address(address, words, log),
-        _ => simple(link, call, words, log),
+        _ => without_bytes(link, call, slots, words, log),
     }
+}
+
+// The bytes that a line gives.
+fn first(room: &Bytes, count: usize) -> &[u8] {
+    part(room, 0, count)
 }
 
 // A call with what its line gives.
@@ -139,6 +131,7 @@ pub(crate) fn play_link(
     log: &mut [u32],
 ) -> Called {
     let mut room = [0u8; 16384];
-    let count = bytes_of(text, slots, given(slots), &mut room);
+    let slot = if given(slots, DATA) == 1 { DATA } else { SEND };
+    let count = bytes_of(text, slots, slot, &mut room);
     link_call(link, call, slots, first(&room, count), words, log)
 }

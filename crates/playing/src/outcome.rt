@@ -1,18 +1,18 @@
 // What a line comes to, and its lines.
+use crate::Played;
 use crate::link::play_link;
 use crate::settings::config_call;
+use crate::settings::refusal;
 use crate::unwaited::unwaited_call;
 use access::Report;
-use nonblocking::link::Link;
-use print::answer::Told;
-use print::answer::accesses;
-use print::answer::told_answer;
-use print::answer::told_line;
+use flat::out::put;
+use nonblocking::Called;
+use nonblocking::Link;
 use print::buffer::Buffer;
 use print::buffer::add;
-use print::buffer::bytes_line;
-use print::line::FOUR;
-use print::line::begin;
+use print::buffer::add_bytes;
+use print::line::*;
+use print::lines::add_call;
 use script::calls::*;
 use script::slots::Slots;
 use text::Bytes;
@@ -20,68 +20,64 @@ use text::Bytes;
 // A log that a line lends.
 pub type Log = [u32; 65536];
 
-// Which call it was, what is told, how many places of the log are filled, and the link after the line.
-pub struct Outcome {
-    pub call: Call,
-    pub told: Told,
-    pub logged: usize,
-    pub link: Link,
+// An answer as six numbers.
+fn six(report: Report) -> [u64; 6] {
+    let mut six = [0u64; 6];
+    put(report, &mut six);
+    six
 }
 
-// What a call of either driver comes to that reports.
-fn reported(call: Call, report: Report, link: Link) -> Outcome {
-    let answer = report.answer;
-    Outcome {
-        call,
-        told: told_answer(answer),
-        logged: report.logged,
+pub(crate) fn told(called: Called) -> Played {
+    let link = called.link;
+    let report = called.report;
+    Played {
         link,
+        six: six(report),
     }
 }
 
 // A line's call, but for the blocking ones that wait.
-pub fn outcome_of(
+pub fn play(
     link: Link,
     call: Call,
     text: &[u8],
     slots: &Slots,
     words: &[u32],
     log: &mut [u32],
-) -> Outcome {
-    match call {
-        NB_RESET..=NB_SET_ADDRESS => {
-            let called = play_link(link, call, text, slots, words, log);
-            let after = called.link;
-            let report = called.report;
-            reported(call, report, after)
-        }
-        BL_NEW..=BL_CLEAR_IRQ => reported(call, unwaited_call(call, slots, words, log), link),
-        _ => Outcome {
-            call,
-            told: config_call(call, slots),
-            logged: 0,
+) -> Played {
+    let refusal = refusal(call, slots);
+    if 0 < refusal {
+        return Played {
             link,
+            six: [refusal, 0, 0, 0, 0, 0],
+        };
+    }
+    match call {
+        NB_RESET..=NB_SET_ADDRESS => told(play_link(link, call, text, slots, words, log)),
+        BL_NEW..=BL_CLEAR_IRQ => Played {
+            link,
+            six: six(unwaited_call(call, slots, words, log)),
+        },
+        _ => Played {
+            link,
+            six: config_call(call, slots),
         },
     }
 }
 
-// A link after a call.
-fn told_link(link: Link) -> Told {
-    let numbers = begin(b'S')
-        .hex(link.address as u32, FOUR)
-        .decimal(link.watchdog as u64)
-        .decimal(link.index as u64)
-        .decimal(link.length as u64)
-        .decimal(link.errors as u64)
-        .decimal(link.length_write_read as u64);
-    Told {
-        line: numbers,
-        bytes: 255,
-    }
+// The line of a link after a call, but for its bytes.
+fn link_line(link: Link) -> Line {
+    begin(b'S')
+        .number(link.address as u64, HEX, FOUR)
+        .number(link.watchdog as u64, TEN, ALL)
+        .number(link.index as u64, TEN, ALL)
+        .number(link.length as u64, TEN, ALL)
+        .number(link.errors as u64, TEN, ALL)
+        .number(link.length_write_read as u64, TEN, ALL)
 }
 
 // What is shown after a call: a link, or the recv slice.
-fn shown(
+fn add_shown(
     out: &mut Buffer,
     used: usize,
     call: Call,
@@ -92,30 +88,31 @@ fn shown(
     match call {
         NB_RESET..=NB_SET_ADDRESS => {
             let data = link.data;
-            told_line(out, used, told_link(link), &data)
+            add_bytes(out, used, link_line(link), &data, 255)
         }
         BL_READ | BL_WRITE_READ | BL_SLAVE_READ | BL_RESUME => {
-            bytes_line(out, used, begin(b'B'), recv, received)
+            add_bytes(out, used, begin(b'B'), recv, received)
         }
         _ => used,
     }
 }
 
-// The lines of a call: its number, its accesses, what is told, and what is shown after it.
-pub fn outcome_lines(
+// The lines of a call: its number, its accesses, its answer, and what is shown after it.
+pub fn add_outcome(
     out: &mut Buffer,
     used: usize,
     number: u64,
-    outcome: Outcome,
+    call: Call,
+    played: Played,
     log: &Log,
     recv: &Bytes,
     received: usize,
 ) -> usize {
-    let link = outcome.link;
+    let link = played.link;
     let data = link.data;
-    let mut used = add(out, used, begin(b'>').decimal(number));
-    used = accesses(out, used, log, outcome.logged);
+    let six = played.six;
+    let used = add(out, used, begin(b'>').number(number, TEN, ALL).byte(b'\n'));
     // No answer but of a link shows bytes.
-    used = told_line(out, used, outcome.told, &data);
-    shown(out, used, outcome.call, link, recv, received)
+    let used = add_call(out, used, log, &six, &data);
+    add_shown(out, used, call, link, recv, received)
 }

@@ -2,67 +2,41 @@
 use answers::Answer;
 use config::Config;
 use config::Filtered;
-use config::Setting;
-use config::SlaveAddressMask;
 use config::Timing;
-use print::answer::Told;
-use print::answer::told_answer;
-use print::answer::told_bad_line;
-use print::answer::told_period;
-use print::answer::told_word;
+use flat::configured::config_of;
+use print::lines::TOLD_BAD_LINE;
+use print::lines::TOLD_PERIOD;
+use print::lines::TOLD_WORD;
 use script::calls::*;
 use script::slots::*;
 
-fn mask(number: u64) -> SlaveAddressMask {
-    match number {
-        0 => SlaveAddressMask::MaskNone,
-        1 => SlaveAddressMask::MaskOneBit,
-        2 => SlaveAddressMask::MaskTwoBits,
-        3 => SlaveAddressMask::MaskThreeBits,
-        4 => SlaveAddressMask::MaskFourBits,
-        5 => SlaveAddressMask::MaskFiveBits,
-        6 => SlaveAddressMask::MaskSixBits,
-        _ => SlaveAddressMask::MaskAllBits,
-    }
+// The configuration but for a filter that goes through the setter. At most one of the three first addresses is given.
+fn plain(slots: &Slots) -> Config {
+    let second = word(slots, OWN_2);
+    let own = word(slots, OWN_7) % 0x1_0000
+        + word(slots, OWN_10) % 0x1_0000
+        + word(slots, OWN_7_RAW) % 0x1_0000;
+    config_of(
+        &[
+            given(slots, SPEED),
+            word(slots, SPEED),
+            given(slots, TIMING),
+            word(slots, TIMING),
+            1 - given(slots, ANALOG),
+            word(slots, DNF),
+            own,
+            given(slots, OWN_10),
+            second / 8,
+            second % 8,
+        ],
+    )
 }
 
-fn setting(slots: &Slots, slot: usize) -> Setting {
-    if has(slots, slot) {
-        return Setting::Set(word(slots, slot));
-    }
-    Setting::Unset
-}
-
-fn own_address(slots: &Slots) -> u16 {
-    if has(slots, OWN_10) {
-        return short(slots, OWN_10);
-    }
-    if has(slots, OWN_7_RAW) {
-        return short(slots, OWN_7_RAW);
-    }
-    short(slots, OWN_7)
-}
-
-// The configuration but for its filter.
-fn config(slots: &Slots) -> Config {
-    let second = number(slots, OWN_2);
-    Config {
-        speed: setting(slots, SPEED),
-        timing: setting(slots, TIMING),
-        analog_filter: !has(slots, ANALOG),
-        digital_filter: byte(slots, DNF),
-        slave_address_1: own_address(slots),
-        address_11bits: has(slots, OWN_10),
-        slave_address_2: (second / 8 % 0x100) as u8,
-        slave_address_mask: mask(second % 8),
-    }
-}
-
-// The configuration with its filter, which goes through the setter.
-pub(crate) fn configuration(slots: &Slots) -> Filtered {
-    let config = config(slots);
-    if has(slots, FILTER) {
-        return config.enable_digital_filter(byte(slots, FILTER));
+// The configuration, with what its filter's setter answers.
+fn filtered(slots: &Slots) -> Filtered {
+    let config = plain(slots);
+    if given(slots, FILTER) == 1 {
+        return config.enable_digital_filter((word(slots, FILTER) % 0x100) as u8);
     }
     Filtered {
         answer: Answer::Done,
@@ -70,42 +44,45 @@ pub(crate) fn configuration(slots: &Slots) -> Filtered {
     }
 }
 
-pub(crate) fn is_done(answer: Answer) -> bool {
-    if let Answer::Done = answer {
-        true
-    } else {
-        false
+// The number of that answer: 0, or that of a refusal. A line that is no call may have any filter.
+pub(crate) fn refusal(call: Call, slots: &Slots) -> u64 {
+    if call == BAD_LINE {
+        return 0;
     }
+    let filtered = filtered(slots);
+    let answer = filtered.answer;
+    answer.number() as u64
 }
 
-fn timing(filtered: Filtered, clock: u32) -> Told {
-    let answer = filtered.answer;
-    if !is_done(answer) {
-        return told_answer(answer);
-    }
-    let timing = filtered.config.timing_bits(clock);
+pub(crate) fn configuration(slots: &Slots) -> Config {
+    let filtered = filtered(slots);
+    filtered.config
+}
+
+fn timing(config: Config, clock: u32) -> [u64; 6] {
+    let timing = config.timing_bits(clock);
     match timing {
-        Timing::Bits(bits) => told_word(bits),
-        Timing::NoRate => told_answer(Answer::NoRate),
+        Timing::Bits(bits) => [TOLD_WORD, 0, 0, bits as u64, 0, 0],
+        Timing::NoRate => [7, 0, 0, 0, 0, 0],
     }
 }
 
-// The setting that the setter leaves.
-fn filter(filtered: Filtered) -> Told {
-    let answer = filtered.answer;
-    if !is_done(answer) {
-        return told_answer(answer);
-    }
-    let config = filtered.config;
-    told_word(config.digital_filter as u32)
-}
-
-// A call of the configuration; what is no call at all is told as that.
-pub(crate) fn config_call(call: Call, slots: &Slots) -> Told {
+// A call of the configuration; what is no call at all is told as that. Of the setter it is the setting that it leaves.
+pub(crate) fn config_call(call: Call, slots: &Slots) -> [u64; 6] {
     match call {
         CFG_TIMING => timing(configuration(slots), word(slots, CLOCK)),
-        CFG_FILTER => filter(config(slots).enable_digital_filter(byte(slots, CYCLES))),
-        CFG_PERIOD => told_period(Config::scl_period(word(slots, PERIOD))),
-        _ => told_bad_line(),
+        CFG_FILTER => {
+            let config = configuration(slots);
+            [TOLD_WORD, 0, 0, config.digital_filter as u64, 0, 0]
+        }
+        CFG_PERIOD => [
+            TOLD_PERIOD,
+            0,
+            0,
+            Config::scl_period(word(slots, PERIOD)) as u64,
+            0,
+            0,
+        ],
+        _ => [TOLD_BAD_LINE, 0, 0, 0, 0, 0],
     }
 }

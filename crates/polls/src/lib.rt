@@ -1,5 +1,10 @@
-// A word of ISR in a wait that follows plainly, and the entries that it leaves in the log.
+// A word of ISR in a wait that follows plainly, the entries that it leaves in the log, and the place of a byte that came in.
+ghost use mathlib.Core.Path.{_≡_};
+ghost use mathlib.Core.Bool.{cond};
+ghost use lib.ListN.{set};
+ghost use Rattle.fields.specs.Words.{received};
 ghost use Rattle.polls.specs.Polls.{Put, Polled};
+use data_registers::Rxdr;
 use flags::Isr;
 use wanted::Found;
 use wanted::Wanted;
@@ -55,4 +60,17 @@ pub fn polled(
         return Brought::Else;
     }
     Brought::Else
+}
+
+// A byte that came in goes to its place.
+pub fn keep_byte(keep: bool, place: usize, word: u32, receive: &mut [u8])
+    ensures { λ r. ⌜ now (receive .exit) ≡ cond keep (set (now (receive .entry)) place (received word)) (now (receive .entry)) ⌝ }
+{
+    if keep {
+        if place < receive.len() {
+            receive[place] = Rxdr::received(word);
+            return;
+        }
+        return;
+    }
 }

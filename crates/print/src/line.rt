@@ -1,27 +1,47 @@
-// A short line, or the start of one: words, each after a space. Hex digits are capitals.
-ghost use mathlib.Core.Path.{_≡_};
-ghost use Prim.Native.Nat.{_%_};
-ghost use Rattle.print.specs.Digit.{capital};
+// A short line, or the start of one. Each number comes after a space; hex digits are capitals.
+ghost use Prim.Native.Nat.{_<_};
 
-// The longest one is that of a link, but for its bytes: 86.
+// The longest one is that of a link, but for its bytes: 87.
 pub struct Line {
     pub bytes: [u8; 96],
     pub used: usize,
 }
 
-// The weight of the first digit where there are two, four, and eight.
-pub const TWO: u32 = 0x10;
+// The base of decimal digits, of hex digits, and of letters.
+pub const TEN: u64 = 10;
 
-pub const FOUR: u32 = 0x1000;
+pub const HEX: u64 = 16;
 
-pub const EIGHT: u32 = 0x1000_0000;
+pub const LETTERS: u64 = 256;
 
-// A hex digit: the lowest one of a number.
-pub(crate) fn digit(n: u32) -> u8
-    ensures { λ r. ⌜ r ≡ capital (n % 16) ⌝ }
-{
-    let d = (n % 16) as u8;
-    if d < 10 { d + 48 } else { d + 55 }
+// The weight of the first digit where there are one, two, four, or eight, and where there are as many decimal ones as it takes.
+pub const ONE: u64 = 1;
+
+pub const TWO: u64 = 0x10;
+
+pub const FOUR: u64 = 0x1000;
+
+pub const EIGHT: u64 = 0x1000_0000;
+
+pub const ALL: u64 = 0;
+
+pub(crate) fn digit(n: u64) -> u8 {
+    let d = (n % 0x100) as u8;
+    match d {
+        0..=9 => d + 48,
+        10..=15 => d + 55,
+        // A letter.
+        _ => d,
+    }
+}
+
+// The weight of a number's first decimal digit.
+fn first_weight(n: u64) -> u64 {
+    let mut weight: u64 = 1;
+    while weight <= n / 10 {
+        weight *= 10;
+    }
+    weight
 }
 
 // A line that starts with a byte.
@@ -42,29 +62,15 @@ impl Line {
         line
     }
 
-    pub(crate) fn text(self, bytes: &[u8]) -> Line {
-        let mut line = self;
-        let mut i: usize = 0;
-        while i < bytes.len() {
-            line = line.byte(bytes[i]);
-            i += 1;
-        }
-        line
-    }
-
-    pub fn decimal(self, n: u64) -> Line {
-        let mut digits = [0u8; 20];
-        let count = io::decimal(n, &mut digits);
-        self.byte(b' ').text(&digits[..count])
-    }
-
     // The lowest digits of a number, from the one of this weight on.
-    pub fn hex(self, n: u32, first: u32) -> Line {
+    pub fn number(self, n: u64, base: u64, first: u64) -> Line
+        requires { ⌜ 1 < base ⌝ }
+    {
         let mut line = self.byte(b' ');
-        let mut weight = first;
+        let mut weight = if first == ALL { first_weight(n) } else { first };
         while 0 < weight {
-            line = line.byte(digit(n / weight));
-            weight /= 16;
+            line = line.byte(digit(n / weight % base));
+            weight /= base;
         }
         line
     }

@@ -6,10 +6,9 @@ use text::OVER;
 use text::bytes::bytes;
 use text::numbers::masked;
 use text::numbers::number;
-use text::tokens::ends;
 use text::tokens::find;
+use text::tokens::is_byte;
 use text::tokens::part;
-use text::tokens::skip;
 use text::tokens::which;
 
 // The slot of a call's argument at a place.
@@ -27,7 +26,7 @@ fn argument(call: Call, place: usize) -> usize {
         NB_SBC | BL_SBC => [SBC, NONE, NONE],
         BL_LISTEN | BL_UNLISTEN | BL_CLEAR_IRQ => [EVENT, NONE, NONE],
         NB_NEW | BL_NEW | CFG_TIMING => [CLOCK, NONE, NONE],
-        CFG_FILTER => [CYCLES, NONE, NONE],
+        CFG_FILTER => [FILTER, NONE, NONE],
         CFG_PERIOD => [PERIOD, NONE, NONE],
         _ => [NONE, NONE, NONE],
     };
@@ -93,7 +92,7 @@ fn form_of(slot: usize) -> Form {
             base: 10,
             top: 0xFFFF_FFFF,
         },
-        FILTER | DNF | CYCLES | LENGTH => Form {
+        FILTER | DNF | LENGTH => Form {
             base: 10,
             top: 0xFF,
         },
@@ -148,7 +147,7 @@ fn read(slot: usize, token: &[u8], place: usize) -> Number {
 
 // Where a token's value begins: past the first `=`, which ends the key.
 fn value_start(line: &[u8], start: usize, end: usize) -> usize {
-    let equals = find(line, b'=', start);
+    let equals = find(line, b'=', false, start);
     if equals < end { equals + 1 } else { start }
 }
 
@@ -169,6 +168,14 @@ fn keep(
     put(slots, slot, number)
 }
 
+// Whether a call ends at this token: at the line's end or at `|`.
+fn is_end(token: &[u8]) -> bool {
+    if token.len() == 0 {
+        return true;
+    }
+    is_byte(token, b'|')
+}
+
 // Where a call ends, if it lacks no argument.
 fn call_end(call: Call, place: usize, at: usize) -> usize {
     if argument(call, place) == NONE {
@@ -178,14 +185,14 @@ fn call_end(call: Call, place: usize, at: usize) -> usize {
     }
 }
 
-// Keeps all values of a call. Answers where it ends. No call has as many values as the loop has turns.
+// Keeps all values of a call. Answers where it ends, past `|` or at the line's end. No call has as many values as the loop has turns.
 pub(crate) fn keep_items(call: Call, line: &[u8], from: usize, slots: &mut Slots) -> usize {
     let mut at = from;
     let mut place: usize = 0;
     while place < 16 {
-        let start = skip(line, at);
-        at = find(line, b' ', start);
-        if ends(part(line, start, at)) {
+        let start = find(line, b' ', true, at);
+        at = find(line, b' ', false, start);
+        if is_end(part(line, start, at)) {
             return call_end(call, place, at);
         }
         if !keep(call, place, line, start, at, slots) {

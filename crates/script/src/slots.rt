@@ -1,6 +1,8 @@
-// The numbers found on a line. Each value has a slot; 28 places on stands 1 where it was given.
+// The numbers found on a line. Each value has a slot; 27 places on stands 1 where it was given.
 
-pub type Slots = [u64; 56];
+ghost use Prim.Native.Nat.{_≤_};
+
+pub type Slots = [u64; 54];
 
 // The options, in the order of their keys in `items::option`.
 pub const LOG: usize = 0;
@@ -41,27 +43,25 @@ pub const OWN_7_RAW: usize = 17;
 // 8 times the address, and the mask.
 pub const OWN_2: usize = 18;
 
-// The arguments, beside `SEND` and `RECV`: addresses of 16 and of 8 bits, the clock, the filter, the word of a period, the read length.
+// The arguments, beside `SEND` and `RECV`: addresses of 16 and of 8 bits, the clock, the word of a period, the read length.
 pub const ADDRESS_16: usize = 19;
 
 pub const ADDRESS_8: usize = 20;
 
 pub const CLOCK: usize = 21;
 
-pub const CYCLES: usize = 22;
+pub const PERIOD: usize = 22;
 
-pub const PERIOD: usize = 23;
+pub const LENGTH: usize = 23;
 
-pub const LENGTH: usize = 24;
-
-pub const SBC: usize = 25;
+pub const SBC: usize = 24;
 // 0 for addr and 1 for rxne.
-pub const EVENT: usize = 26;
+pub const EVENT: usize = 25;
 
 // How many words stand in the lent `words`.
-pub const WORDS: usize = 27;
+pub const WORDS: usize = 26;
 
-pub const NONE: usize = 28;
+pub const NONE: usize = 27;
 
 // The most bytes that a slot can have.
 pub(crate) fn most(slot: usize) -> u64 {
@@ -70,37 +70,32 @@ pub(crate) fn most(slot: usize) -> u64 {
 
 // 0 where nothing was given.
 pub fn number(slots: &Slots, slot: usize) -> u64 {
-    if slot < 28 { slots[slot] } else { 0 }
+    if slot < 27 { slots[slot] } else { 0 }
 }
 
-// A number by its lowest 32, 16 and 8 bits.
+// A number by its lowest 32 bits.
 pub fn word(slots: &Slots, slot: usize) -> u32 {
     (number(slots, slot) % 0x1_0000_0000) as u32
 }
 
-pub fn short(slots: &Slots, slot: usize) -> u16 {
-    (number(slots, slot) % 0x1_0000) as u16
-}
-
-pub fn byte(slots: &Slots, slot: usize) -> u8 {
-    (number(slots, slot) % 0x100) as u8
-}
-
-pub fn has(slots: &Slots, slot: usize) -> bool {
-    if slot < 28 {
-        return slots[slot + 28] == 1;
+// 1 where a number was given, else 0.
+pub fn given(slots: &Slots, slot: usize) -> u32
+    ensures { λ r. ⌜ r ≤ 1 ⌝ }
+{
+    if slot < 27 {
+        return (slots[slot + 27] % 2) as u32;
     }
-    false
+    0
 }
 
 // Puts a number into a slot that has none yet: nothing comes twice, and nothing after `log=`.
 pub(crate) fn put(slots: &mut Slots, slot: usize, value: u64) -> bool {
-    if slot < 28 {
+    if slot < 27 {
         // No `LOG` yet.
-        if slots[28] == 0 {
-            if slots[slot + 28] == 0 {
+        if slots[27] == 0 {
+            if slots[slot + 27] == 0 {
                 slots[slot] = value;
-                slots[slot + 28] = 1;
+                slots[slot + 27] = 1;
                 return true;
             }
         }

@@ -6,8 +6,9 @@ ghost use lib.ListN.{length as size, getD};
 ghost use Rattle.answers.specs.Answers.{said};
 ghost use Rattle.access.specs.Access.{settle, Reported};
 ghost use Rattle.ending.specs.Link.{linkAt, impossible};
-ghost use Rattle.ending.specs.Plan.{writeStart, readStart};
-ghost use Rattle.ending.specs.Outcome.{settled, Matches};
+ghost use Rattle.ending.specs.Call.{masterWrite, masterRead};
+ghost use Rattle.ending.specs.Plan.{writeStart};
+ghost use Rattle.ending.specs.Outcome.{outcome, settled, Matches};
 use crate::bytes::clear;
 use crate::bytes::copy_in;
 use crate::opening::write_opened;
@@ -54,25 +55,57 @@ pub fn write_fields(
     report
 }
 
-// A read over a link's fields, lent one by one. The part of the buffer that it is to fill is cleared; RXDR is read to flush it.
+// `master_write` over all of a link's fields. `master_write_read` is in `lent_write_read`.
+pub fn write(
+    address: &mut u16,
+    watchdog: &mut u16,
+    index: &mut usize,
+    length: &mut usize,
+    errors: &mut u32,
+    length_write_read: &mut usize,
+    data: &mut [u8; 255],
+    addr: u16,
+    bytes: &[u8],
+    words: &[u32],
+    log: &mut [u32],
+) -> Report
+    ensures { λ r. ⌜ Matches (outcome (record { call = masterWrite addr (now (bytes .entry)); words = now (words .entry); places = size (now (log .entry)) }) (linkAt (now (address .entry)) (now (watchdog .entry)) (now (index .entry)) (now (length .entry)) (now (errors .entry)) (now («length_write_read» .entry)) (now («data» .entry)))) r
+        (linkAt (now (address .exit)) (now (watchdog .exit)) (now (index .exit)) (now (length .exit)) (now (errors .exit)) (now («length_write_read» .exit)) (now («data» .exit))) (now (log .entry)) (now (log .exit)) ⌝ }
+{
+    write_fields(
+        address,
+        watchdog,
+        index,
+        length,
+        length_write_read,
+        data,
+        addr,
+        bytes,
+        0,
+        true,
+        words,
+        log,
+    )
+}
+
+// A read over all of a link's fields, lent one by one. The part of the buffer that it is to fill is cleared; RXDR is read to flush it.
 pub fn read_fields(
     address: &mut u16,
     watchdog: &mut u16,
     index: &mut usize,
     length: &mut usize,
-    length_write_read: usize,
+    errors: &mut u32,
+    length_write_read: &mut usize,
     data: &mut [u8; 255],
     addr: u16,
     read_len: u8,
     words: &[u32],
     log: &mut [u32],
 ) -> Report
-    ensures { λ r. ⌜ ((e : ℕ) → Matches (settled (impossible (linkAt (now (address .entry)) (now (watchdog .entry)) (now (index .entry)) (now (length .entry)) e «length_write_read» (now («data» .entry))))
-        (readStart addr «read_len» (getD (now (words .entry)) 0 0) (getD (now (words .entry)) 1 0) (getD (now (words .entry)) 2 0) (linkAt (now (address .entry)) (now (watchdog .entry)) (now (index .entry)) (now (length .entry)) e «length_write_read» (now («data» .entry))))
-        (now (words .entry)) (size (now (log .entry))) (linkAt (now (address .entry)) (now (watchdog .entry)) (now (index .entry)) (now (length .entry)) e «length_write_read» (now («data» .entry)))) r
-        (linkAt (now (address .exit)) (now (watchdog .exit)) (now (index .exit)) (now (length .exit)) e «length_write_read» (now («data» .exit))) (now (log .entry)) (now (log .exit))) ⌝ }
+    ensures { λ r. ⌜ Matches (outcome (record { call = masterRead addr «read_len»; words = now (words .entry); places = size (now (log .entry)) }) (linkAt (now (address .entry)) (now (watchdog .entry)) (now (index .entry)) (now (length .entry)) (now (errors .entry)) (now («length_write_read» .entry)) (now («data» .entry)))) r
+        (linkAt (now (address .exit)) (now (watchdog .exit)) (now (index .exit)) (now (length .exit)) (now (errors .exit)) (now («length_write_read» .exit)) (now («data» .exit))) (now (log .entry)) (now (log .exit)) ⌝ }
 {
-    if impossible(*index, *length, length_write_read, *watchdog) {
+    if impossible(*index, *length, *length_write_read, *watchdog) {
         return impossible_link();
     }
     let n = read_len as usize;

@@ -10,11 +10,11 @@ ghost use Rattle.ending.specs.Link.{Link};
 ghost use Rattle.ending.specs.Plan.{onStart};
 use crate::opening::looked;
 use access::Report;
-use access::settle;
 use answers::Answer;
 use cr2::Cr2;
 use data_registers::Rxdr;
 use errors::out_of_words;
+use settling::settle;
 
 // A read: whether the bus is free; RXDR is read to flush it.
 pub(crate) fn read_opened(addr: u16, nbytes: usize, words: &[u32], log: &mut [u32]) -> Report

@@ -1,6 +1,5 @@
 // The slave's start: the bytes that a master is to read.
 ghost use mathlib.Core.Path.{_≡_};
-ghost use Prim.Native.Nat.{ℕ};
 ghost use lib.ListN.{length as size};
 ghost use Rattle.ending.specs.Link.{linkAt};
 ghost use Rattle.ending.specs.Call.{slaveWrite};
@@ -8,27 +7,29 @@ ghost use Rattle.ending.specs.Outcome.{outcome, Matches};
 use crate::bytes::copy_in;
 use crate::offering::slave_opened;
 use access::Report;
-use access::refused;
 use answers::Answer;
 use errors::impossible_link;
 use limits::impossible;
 use limits::length_allowed;
+use settling::refused;
 
-// `slave_write` over a link's fields, lent one by one.
+// `slave_write` over all of a link's fields, lent one by one.
 pub fn slave_write_fields(
-    watchdog: u16,
+    address: &mut u16,
+    watchdog: &mut u16,
     index: &mut usize,
     length: &mut usize,
-    length_write_read: usize,
+    errors: &mut u32,
+    length_write_read: &mut usize,
     data: &mut [u8; 255],
     bytes: &[u8],
     words: &[u32],
     log: &mut [u32],
 ) -> Report
-    ensures { λ r. ⌜ ((a e : ℕ) → Matches (outcome (record { call = slaveWrite (now (bytes .entry)); words = now (words .entry); places = size (now (log .entry)) }) (linkAt a watchdog (now (index .entry)) (now (length .entry)) e «length_write_read» (now («data» .entry)))) r
-        (linkAt a watchdog (now (index .exit)) (now (length .exit)) e «length_write_read» (now («data» .exit))) (now (log .entry)) (now (log .exit))) ⌝ }
+    ensures { λ r. ⌜ Matches (outcome (record { call = slaveWrite (now (bytes .entry)); words = now (words .entry); places = size (now (log .entry)) }) (linkAt (now (address .entry)) (now (watchdog .entry)) (now (index .entry)) (now (length .entry)) (now (errors .entry)) (now («length_write_read» .entry)) (now («data» .entry)))) r
+        (linkAt (now (address .exit)) (now (watchdog .exit)) (now (index .exit)) (now (length .exit)) (now (errors .exit)) (now («length_write_read» .exit)) (now («data» .exit))) (now (log .entry)) (now (log .exit)) ⌝ }
 {
-    if impossible(*index, *length, length_write_read, watchdog) {
+    if impossible(*index, *length, *length_write_read, *watchdog) {
         return impossible_link();
     }
     let n = bytes.len();

@@ -11,13 +11,13 @@ ghost use Rattle.answers.specs.Answers.{said};
 ghost use Rattle.ending.specs.Link.{linkAt};
 ghost use Rattle.ending.specs.Arms.{Arm};
 use access::Report;
-use access::settle;
-use access::word_at;
 use answers::Answer;
 use cr2::Cr2;
 use flag_order::Flag;
 use flags::Icr;
 use flags::Isr;
+use settling::settle;
+use settling::word_at;
 
 // Where the master writes, the buffer is opened for its bytes; where it reads, `slave_write` is to follow.
 pub fn on_addr(

@@ -12,8 +12,6 @@ ghost use Rattle.ending.specs.Link.{Link, linkAt};
 ghost use Rattle.ending.specs.Plan.{after, onTcAt, raised};
 ghost use Rattle.ending.specs.Arms.{Arm, Tried};
 use access::Report;
-use access::settle;
-use access::word_at;
 use answers::Answer;
 use cr2::Cr2;
 use errors::log_full;
@@ -21,6 +19,8 @@ use errors::one_more;
 use errors::out_of_words;
 use flag_order::Flag;
 use flags::Isr;
+use settling::settle;
+use settling::word_at;
 
 // ISR and CR2 were read and CR2 is written.
 fn cr2_written(answer: Answer, cr2: u32, words: &[u32], log: &mut [u32]) -> Report

@@ -8,13 +8,13 @@ ghost use Rattle.answers.specs.Answers.{said};
 ghost use Rattle.ending.specs.Link.{Link, linkAt};
 ghost use Rattle.ending.specs.Arms.{Arm};
 use access::Report;
-use access::settle;
-use access::word_at;
 use answers::Answer;
 use errors::one_more;
 use flag_order::Flag;
 use flags::Icr;
 use flags::Isr;
+use settling::settle;
+use settling::word_at;
 
 pub mod addressed;
 pub mod frame;
@@ -34,6 +34,19 @@ pub fn answered(
 {
     let entries = [Isr::READ, word_at(words, 0), register, word];
     settle(answer, reads, &entries, words, log)
+}
+
+// The same for a check that is pending: an answer handed on makes a caller's proof longer.
+pub fn pending(
+    reads: usize,
+    register: u32,
+    word: u32,
+    words: &[u32],
+    log: &mut [u32],
+) -> Report
+    ensures { λ r. ⌜ Reported (settle (said Answer.Pending) reads (0x18 ∷ getD (now (words .entry)) 0 0 ∷ register ∷ word ∷ []) (length (now (words .entry))) (length (now (log .entry)))) (now (log .entry)) r (now (log .exit)) ⌝ }
+{
+    answered(Answer::Pending, reads, register, word, words, log)
 }
 
 // ISR was read and nothing follows.
@@ -80,12 +93,5 @@ pub fn on_arlo(words: &[u32], log: &mut [u32]) -> Report
 pub fn on_nackf(words: &[u32], log: &mut [u32]) -> Report
     ensures { λ r. ⌜ ((l : Link) → Arm Flag.Nackf (now (words .entry)) l l r (now (log .entry)) (now (log .exit))) ⌝ }
 {
-    answered(
-        Answer::Pending,
-        1,
-        Icr::WRITE,
-        Icr::cleared(Isr::NACKF),
-        words,
-        log,
-    )
+    pending(1, Icr::WRITE, Icr::cleared(Isr::NACKF), words, log)
 }

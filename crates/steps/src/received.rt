@@ -7,14 +7,14 @@ ghost use Rattle.access.specs.Access.{settle, Reported};
 ghost use Rattle.answers.specs.Answers.{said};
 ghost use Rattle.ending.specs.Link.{linkAt};
 ghost use Rattle.ending.specs.Arms.{Arm};
-use crate::answered;
+use crate::pending;
 use access::Report;
-use access::settle;
-use access::word_at;
 use answers::Answer;
 use data_registers::Rxdr;
 use flag_order::Flag;
 use flags::Isr;
+use settling::settle;
+use settling::word_at;
 
 // A byte came in. With a full index RXDR is read anyway, if RXNE is still set, to clear the flag.
 pub fn on_rxne(
@@ -29,7 +29,7 @@ pub fn on_rxne(
     let i = *index;
     if i < length as usize {
         let next = word_at(words, 1);
-        let report = answered(Answer::Pending, 2, Rxdr::READ, next, words, log);
+        let report = pending(2, Rxdr::READ, next, words, log);
         if report.logged == 0 {
             return report;
         }
@@ -41,7 +41,7 @@ pub fn on_rxne(
     if Isr::RXNE.is_set(next) {
         return emptied(next, words, log);
     }
-    answered(Answer::Pending, 2, Isr::READ, next, words, log)
+    pending(2, Isr::READ, next, words, log)
 }
 
 // RXDR is read after ISR was read twice.

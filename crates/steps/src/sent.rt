@@ -6,14 +6,15 @@ ghost use Rattle.ending.specs.Link.{linkAt};
 ghost use Rattle.ending.specs.Arms.{Arm};
 use crate::answered;
 use crate::on_nothing;
+use crate::pending;
 use access::Report;
-use access::word_at;
 use answers::Answer;
 use data_registers::Txdr;
 use errors::one_more;
 use flag_order::Flag;
 use flags::Icr;
 use flags::Isr;
+use settling::word_at;
 use transfer::byte_out;
 use transfer::shown;
 
@@ -29,14 +30,7 @@ pub fn on_txis(
 {
     let i = *index;
     if i < length as usize {
-        let report = answered(
-            Answer::Pending,
-            1,
-            Txdr::WRITE,
-            byte_out(data, i, length),
-            words,
-            log,
-        );
+        let report = pending(1, Txdr::WRITE, byte_out(data, i, length), words, log);
         if report.logged == 0 {
             return report;
         }

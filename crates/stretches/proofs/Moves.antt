@@ -22,7 +22,6 @@ use Rattle.parked.proofs.Phases.{atPhase, after-wait, after-byte}
 use Rattle.stretches.specs.declared.Moved.{Moved}
 use Rattle.stretches.specs.Stretches.{Carried, Sends, Receives, waiting}
 use Rattle.stretches.proofs.Carries.{carried-on}
-use Rattle.slices.proofs.Places.{getD-default}
 use Rattle.runs.proofs.Phased.{next-wait, next-in, next-out, more-in, more-out, wanted-in, wanted-out, found-byte}
 use Rattle.stretches.proofs.Accesses.{on, reads, writes}
 
@@ -84,7 +83,7 @@ module _ (s ws log b : List ℕ) (p : Parked) (n t g : ℕ) where
 
     -- a byte goes out
     pub send-one : g + 4 ≤ length log → getD ws t 0 has TXIS ≡ true
-        → Carried s ws log b (waiting p (moved n t g)) (sets log g (offset ISR ∷ getD ws t 0 ∷ (offset TXDR + 0x100) ∷ sent (getD s n 0) ∷ [])) b
+        → Carried s ws log b (waiting p (moved n t g)) (sets log g (offset ISR ∷ getD ws t 0 ∷ (offset TXDR + 0x100) ∷ sent (getD s n 0x21) ∷ [])) b
         (waiting p (moved (n + 1) (t + 1) (g + 4)))
     send-one hg h =
         let log₁ : List ℕ = sets log g (offset ISR ∷ getD ws t 0 ∷ []) in
@@ -93,9 +92,9 @@ module _ (s ws log b : List ℕ) (p : Parked) (n t g : ℕ) where
         let first = found s ws log b p n t g (suc (suc g)) ht (omega arith) (omega arith) (found-byte w (getD ws t 0) Txis (wanted-out w i (left w i l refl)) h (left w i l refl)) in
         let e : after q 0 ≡ atPhase p Wait (n + 1) = after-byte q 0 refl ∙ rw (left q i l refl) in
         carried-on first
-        (subst (λ (r : Parked). Carried s ws log₁ b (on q (t + 1) (suc (suc g))) (sets log₁ (suc (suc g)) ((offset TXDR + 0x100) ∷ sent (getD s n 0) ∷ [])) b (on r (t + 1) (g + 4))) e
-        (writes s ws log₁ b q (t + 1) (suc (suc g)) (g + 4) (t + 1) (omega (arith, first .long)) (omega arith) (offset TXDR + 0x100) (sent (getD s n 0))
-        (next-out s q refl i ∙ rw (getD-default s n 0x21 0)) (omega arith) refl))
+        (subst (λ (r : Parked). Carried s ws log₁ b (on q (t + 1) (suc (suc g))) (sets log₁ (suc (suc g)) ((offset TXDR + 0x100) ∷ sent (getD s n 0x21) ∷ [])) b (on r (t + 1) (g + 4))) e
+        (writes s ws log₁ b q (t + 1) (suc (suc g)) (g + 4) (t + 1) (omega (arith, first .long)) (omega arith) (offset TXDR + 0x100) (sent (getD s n 0x21))
+        (next-out s q refl i) (omega arith) refl))
 
 -- bytes went out, and then another access or two: a word and room were left for them
 pub sends-on : {s ws log₀ log log′ : List ℕ} {m₀ m m′ : Moved} → Sends s ws log₀ m₀ log m → m .taken < length ws → m .logged + 2 ≤ length log → length log′ ≡ length log

@@ -7,6 +7,8 @@ use crate::Moved;
 use data_registers::Rxdr;
 use data_registers::Txdr;
 use flags::Isr;
+use one_byte::byte_in;
+use one_byte::byte_out;
 use polls::Brought;
 use polls::polled;
 use wanted::Wanted;
@@ -30,7 +32,7 @@ pub fn send_bytes(from: Moved, send: &[u8], words: &[u32], log: &mut [u32]) -> M
     let mut logged = from.logged;
     loop {
         if left(count, send.len(), taken, words.len()) {
-            let sent = Txdr::sent(send[count]);
+            let sent = byte_out(send, count);
             let isr = words[taken];
             let set = Isr::TXIS.is_set(isr);
             let brought = polled(set, isr, Wanted::Txis, Txdr::WRITE, sent, logged, log);
@@ -75,12 +77,13 @@ pub fn receive_bytes(from: Moved, receive: &mut [u8], words: &[u32], log: &mut [
     loop {
         if left(count, receive.len(), taken + 1, words.len()) {
             let rxdr = words[taken + 1];
+            let byte = byte_in(words, taken);
             let isr = words[taken];
             let set = Isr::RXNE.is_set(isr);
             let brought = polled(set, isr, Wanted::Rxne, Rxdr::READ, rxdr, logged, log);
             match brought {
                 Brought::Byte => {
-                    receive[count] = Rxdr::received(rxdr);
+                    receive[count] = byte;
                     count = count + 1;
                     taken = taken + 2;
                     logged = logged + 4;

@@ -1,11 +1,22 @@
 // BYTES: `-`, or hex pairs, or one pair, `x` and a count.
-ghost use Prim.Native.Nat.{_<_};
+ghost use Prim.Native.Nat.{_≤_, _<_};
 use crate::Bytes;
 use crate::Number;
 use crate::OVER;
+use crate::numbers::NO_DIGIT;
+use crate::numbers::digit;
 use crate::numbers::number;
+use crate::tokens::is_byte;
 use crate::tokens::part;
-use crate::tokens::which;
+
+fn digit_at(token: &[u8], place: usize) -> u64
+    ensures { λ r. ⌜ r ≤ 256 ⌝ }
+{
+    if place < token.len() {
+        return digit(token[place]);
+    }
+    NO_DIGIT
+}
 
 // Whether a token is one pair that stands at every place.
 fn repeats(token: &[u8]) -> bool {
@@ -15,52 +26,48 @@ fn repeats(token: &[u8]) -> bool {
     false
 }
 
-// The byte at a place.
-fn byte(token: &[u8], place: usize) -> Number
+// The byte at a place, or more than a byte where the pair is none.
+fn pair(token: &[u8], place: usize) -> u64
     requires { ⌜ place < 16384 ⌝ }
 {
     if repeats(token) {
-        return number(part(token, 0, 2), 16, 0xFF);
+        return digit_at(token, 0) * 16 + digit_at(token, 1);
     }
-    number(part(token, 2 * place, 2 * place + 2), 16, 0xFF)
+    digit_at(token, 2 * place) * 16 + digit_at(token, 2 * place + 1)
 }
 
-// How many bytes a token gives, or `OVER`.
+// How many bytes a token gives, or `OVER`. That each is one is left to be seen.
 fn count_of(token: &[u8], top: u64) -> usize {
-    if which(token, b"- ", 0) == 0 {
+    if is_byte(token, b'-') {
         return 0;
     }
     // Also a pair that stands nowhere has to be one.
-    let Number::Value(_) = byte(token, 0) else {
+    if 0xFF < pair(token, 0) {
         return OVER;
-    };
+    }
     if repeats(token) {
-        let Number::Value(count) = number(part(token, 3, token.len()), 10, top) else {
-            return OVER;
+        let count = number(part(token, 3, token.len()), 10, top);
+        return match count {
+            Number::Value(count) => count as usize,
+            Number::None => OVER,
         };
-        return count as usize;
     }
-    let count = token.len() / 2;
-    if token.len() % 2 == 1 {
-        return OVER;
-    }
-    if top < count as u64 {
-        return OVER;
-    }
-    count
+    let count = token.len() / 2 + token.len() % 2;
+    if top < count as u64 { OVER } else { count }
 }
 
 // The bytes into the lent array, and their number, or `OVER` where the token is none.
 pub fn bytes(token: &[u8], top: u64, out: &mut Bytes) -> usize {
     let count = count_of(token, top);
+    if 16_384 < count {
+        return OVER;
+    }
     let mut i: usize = 0;
     while i < count {
-        if 16_384 <= i {
+        let byte = pair(token, i);
+        if 0xFF < byte {
             return OVER;
         }
-        let Number::Value(byte) = byte(token, i) else {
-            return OVER;
-        };
         out[i] = (byte % 0x100) as u8;
         i += 1;
     }

@@ -10,11 +10,11 @@ pub fn part(line: &[u8], start: usize, end: usize) -> &[u8] {
     &line[..0]
 }
 
-// The first place from `from` on that holds the byte, or the line's length.
-pub fn find(line: &[u8], byte: u8, from: usize) -> usize {
+// The first place from `from` on that holds the byte, or with `other` one that does not; the line's length where there is none.
+pub fn find(line: &[u8], byte: u8, other: bool, from: usize) -> usize {
     let mut i = from;
     while i < line.len() {
-        if line[i] == byte {
+        if (line[i] != byte) == other {
             return i;
         }
         i += 1;
@@ -22,56 +22,70 @@ pub fn find(line: &[u8], byte: u8, from: usize) -> usize {
     line.len()
 }
 
-// The first place from `from` on that holds no space, or the line's length.
-pub fn skip(line: &[u8], from: usize) -> usize {
-    let mut i = from;
-    while i < line.len() {
-        if line[i] != b' ' {
-            return i;
-        }
-        i += 1;
-    }
-    line.len()
-}
-
-// Whether a call ends at this token: at the line's end or at `|`.
-pub fn ends(token: &[u8]) -> bool {
-    if token.len() == 0 {
-        return true;
-    }
+// Whether a token is this byte alone.
+pub fn is_byte(token: &[u8], byte: u8) -> bool {
     if token.len() == 1 {
-        return token[0] == b'|';
+        return token[0] == byte;
     }
     false
 }
 
-// How many bytes agree with a name so far, one byte further on. None agree with what follows one that differs.
-fn agree(token: &[u8], count: usize, byte: u8) -> usize {
-    if count < token.len() {
-        if token[count] == byte {
-            return count + 1;
-        }
-    }
-    18_446_744_073_709_551_615
+// A token beside names: the number of the name that it is compared with, how many of the bytes agree, and whether it is that name.
+struct Beside {
+    pub name: usize,
+    pub agree: usize,
+    pub same: bool,
 }
 
 pub const NO_NAME: usize = 1000;
 
-// Which of the names the token is, the first one having the given number. A space ends each name.
+// One byte of the names further. A space ends each name; nothing agrees with what follows a byte that differs.
+fn further(token: &[u8], beside: Beside, byte: u8) -> Beside {
+    let name = beside.name;
+    let agree = beside.agree;
+    if byte == b' ' {
+        if agree == token.len() {
+            return Beside {
+                name,
+                agree,
+                same: true,
+            };
+        }
+        // There are fewer names.
+        return Beside {
+            name: name % NO_NAME + 1,
+            agree: 0,
+            same: false,
+        };
+    }
+    if agree < token.len() {
+        if token[agree] == byte {
+            return Beside {
+                name,
+                agree: agree + 1,
+                same: false,
+            };
+        }
+    }
+    Beside {
+        name,
+        agree: 18_446_744_073_709_551_615,
+        same: false,
+    }
+}
+
+// Which of the names the token is, the first one having the given number.
 pub fn which(token: &[u8], names: &[u8], first: usize) -> usize {
-    let mut index = first;
-    let mut count: usize = 0;
+    let mut beside = Beside {
+        name: first,
+        agree: 0,
+        same: false,
+    };
     let mut i: usize = 0;
     while i < names.len() {
-        if names[i] == b' ' {
-            if count == token.len() {
-                return index;
-            }
-            // There are fewer names.
-            index = index % NO_NAME + 1;
-            count = 0;
-        } else {
-            count = agree(token, count, names[i]);
+        beside = further(token, beside, names[i]);
+        if beside.same {
+            return beside.name;
         }
         i += 1;
     }

@@ -6,7 +6,7 @@ ghost use lib.Dec.{ltb};
 ghost use lib.ListN.{getD};
 ghost use Rattle.fields.specs.Words.{sent};
 ghost use Rattle.flags.specs.Flags.{directionOf};
-ghost use Rattle.answers.specs.Answers.{said, says, directionNumber};
+ghost use Rattle.answers.specs.Answers.{said, says};
 use answers::Answer;
 use data_registers::Txdr;
 use flags::Isr;
@@ -33,7 +33,7 @@ pub fn byte_out(data: &[u8; 255], index: usize, length: u8) -> u32
 
 // The bytes that a transfer moved, with its address and direction.
 pub fn shown(address: u16, isr: u32, count: usize) -> Answer
-    ensures { λ r. ⌜ said r ≡ says 0x44 (address ∷ directionNumber (directionOf isr) ∷ count ∷ []) ⌝ }
+    ensures { λ r. ⌜ said r ≡ says 0x44 (address ∷ directionOf isr ∷ count ∷ []) ⌝ }
 {
     Answer::Data {
         address,

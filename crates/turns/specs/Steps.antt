@@ -28,6 +28,11 @@ Told Again p = p ≡ p
 Told Found p = p .phase ≡ Transfer
 Told (Over e) p = p .phase ≡ Ended e
 
+-- an access was made, which took so many words
+pub record Stepped (p : Parked) (t : ℕ) (r : Progress) : Type 0 where
+  pub made : r ≡ record { turn = r .turn; parked = p; taken = t; logged = 2 }
+  pub told : Told (r .turn) p
+
 -- an access was made, or the run stops here
 abbrev pub Ends : Turn → ℕ → ℕ → Outcome → Parked → List ℕ → Type 0
 Ends Again g g′ q p b = g′ ≡ g + 2

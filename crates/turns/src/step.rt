@@ -1,12 +1,12 @@
 // One access of a run, over the words and the log that are left.
 ghost use mathlib.Core.Path.{_≡_};
-ghost use Rattle.turns.specs.Steps.{Told, Turned};
+ghost use Rattle.turns.specs.Steps.{Told, Stepped, Turned};
 use parked::End;
 use parked::Next;
 use parked::Parked;
 use parked::Phase;
+use polls::keep_byte;
 use slices::byte_at;
-use slices::keep_byte;
 use stretches::Progress;
 use stretches::Turn;
 
@@ -21,6 +21,18 @@ fn turn(call: Parked) -> Turn
         return Turn::Found;
     }
     Turn::Again
+}
+
+// An access was made: the call after it, with the words that it took.
+fn stepped(after: Parked, taken: usize) -> Progress
+    ensures { λ r. ⌜ Stepped after taken r ⌝ }
+{
+    Progress {
+        turn: turn(after),
+        parked: after,
+        taken,
+        logged: 2,
+    }
 }
 
 // No access is made: the call is over, or parks.
@@ -61,13 +73,7 @@ pub(crate) fn advance(
             log[0] = number;
             log[1] = word;
             keep_byte(keep, count, word, receive);
-            let after = call.after(word);
-            Progress {
-                turn: turn(after),
-                parked: after,
-                taken: 1,
-                logged: 2,
-            }
+            stepped(call.after(word), 1)
         }
         Next::Write(number, word) => {
             if log.len() < 2 {
@@ -75,13 +81,7 @@ pub(crate) fn advance(
             }
             log[0] = number;
             log[1] = word;
-            let after = call.after(0);
-            Progress {
-                turn: turn(after),
-                parked: after,
-                taken: 0,
-                logged: 2,
-            }
+            stepped(call.after(0), 0)
         }
     }
 }

@@ -9,7 +9,7 @@ returns : tie.Need-returns
 returns c = rw (lt-ltb _ _ (c .if1 .taken))
 
 returns-2 : tie.Need-returns-2
-returns-2 c = rw (le-ltb _ _ (c .before .before .if1 .left)) (cc)
+returns-2 c = rw (le-ltb _ _ (c .before .before .if1 .left), c .timing-word .ensures, c .before .min .ensures)
 
 pub at-quotient-spec : {M : Type 1} → statement M
 at-quotient-spec = tie.close (tie.spec returns (λ c. search needs) (λ c κs. search needs) (λ c κs. search needs) returns-2)

@@ -11,7 +11,7 @@ returns : tie.Need-returns
 returns c =
     λ l.
     let ws = c .before .before .before .before .before .before .before .args .words .now in
-    same (flagPlan Nackf ws l) l ws (rw (c .before .before .before .before .cleared .ensures) at (c .before .before .answered .ensures)) refl refl
+    same (flagPlan Nackf ws l) l ws (rw (c .before .before .before .before .cleared .ensures) at (c .before .before .pending .ensures)) refl refl
 
 pub on-nackf-spec : {M : Type 1} → statement M
 on-nackf-spec = tie.close (tie.spec (λ c κs. tt) (λ c κs. tt) (λ c. search needs) returns)

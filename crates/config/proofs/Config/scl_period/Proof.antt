@@ -16,7 +16,7 @@ mul-result c =
 
 returns : tie.Need-returns
 unfolding period
-returns c = cc
+returns c = rw (c .before .before .get .ensures .0, c .before .get2 .ensures .0, c .get3 .ensures .0)
 
 pub scl-period-spec : {M : Type 1} → statement M
 scl-period-spec = tie.close (tie.spec (λ c κs. tt) (λ c κs. tt) (λ c κs. tt) (λ c. search needs) (λ c. search needs) (λ c. search needs) mul-result returns)

@@ -13,7 +13,7 @@ use denote.Signature.{Slot, typesAt}
 use denote.Slice.{slice-vals, shr-slice-tells, mut-slice-tells, shr-slice-lawful, mut-slice-lawful}
 use denote.Triple.End.{Kepts}
 use Rattle.nonblocking.proofs.Lending.{[], _∷_, List, refl, id⊢, URA, named, SProp, Memory, Routine, Heap, Calls, Loops, Atoms, Fun, FmC, Given, !, RefT, tripleOf, Contract, Triple, ptr-vals, givenOf}
-use Rattle.nonblocking.specs.declared.link.Link.{Link}
+use Rattle.nonblocking.specs.declared.Link.{Link}
 use Rattle.nonblocking.proofs.Loans.{Names, lifetimes, shares, references, pointers}
 use Rattle.nonblocking.proofs.Thin.{others, Whole, Told, Runs, at, enters, thin-walk, thin-closes}
 use Rattle.ffi.proofs.fresh.construct_fields as callee

@@ -1,6 +1,5 @@
 -- `fields::Field::clear` meets its contract, by `clear-code`.
-use mathlib.Core.Path.{_≡_, sym}
-use Prim.Native.Nat.{_-_, _^_, min}
+use mathlib.Core.Path.{sym}
 use borrow.Author.Needs.{needs}
 use Rattle.fields.proofs.ShiftAndMask.{put-past, clear-code}
 use Rattle.fields.proofs.Field.clear.Statement.{statement}
@@ -13,10 +12,8 @@ returns c =
 
 returns-2 : tie.Need-returns-2
 returns-2 c =
-    let s = c .before .before .before .before .before in
-    let mask : c .before .ones .result ≡ 2 ^ min (s .args .self .width) (32 - s .args .self .place) - 1 = cc in
-    rw mask (clear-code (s .args .word) (s .args .self .place) (s .args .self .width) (search needs) (s .fits .word .fits))
+    let s = c .before .before .before .before in
+    rw (c .before .mask .ensures) (clear-code (s .args .word) (s .args .self .place) (s .args .self .width) (search needs) (s .fits .word .fits))
 
 pub clear-spec : {M : Type 1} → statement M
-clear-spec =
-    tie.close (tie.spec returns (λ c κs. search needs) (λ c κs. search needs) (λ c. search needs) returns-2)
+clear-spec = tie.close (tie.spec returns (λ c κs. search needs) (λ c. search needs) returns-2)

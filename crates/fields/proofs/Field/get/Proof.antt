@@ -1,7 +1,6 @@
 -- `fields::Field::get` meets its contract, by `get-code`.
-use mathlib.Core.Path.{_≡_, refl, sym}
+use mathlib.Core.Path.{refl, sym}
 use lib.Pow.{pow-pos}
-use Prim.Native.Nat.{_-_, _^_, min}
 use borrow.Author.Needs.{needs}
 use Rattle.fields.proofs.FieldLaws.{get-lt}
 use Rattle.fields.proofs.ShiftAndMask.{get-past, get-code}
@@ -15,10 +14,8 @@ returns c =
 
 returns-2 : tie.Need-returns-2
 returns-2 c =
-    let s = c .before .before .before .before .before in
-    let mask : c .ones .result ≡ 2 ^ min (s .args .self .width) (32 - s .args .self .place) - 1 = cc in
-    let e = get-code (s .args .word) (s .args .self .place) (s .args .self .width) (search needs) (s .fits .word .fits) in
-    rw (mask, e) (refl, get-lt (s .args .word) (s .args .self))
+    let s = c .before .before .before .before in
+    rw (c .mask .ensures, get-code (s .args .word) (s .args .self .place) (s .args .self .width) (search needs) (s .fits .word .fits)) (refl, get-lt (s .args .word) (s .args .self))
 
 pub get-spec : {M : Type 1} → statement M
-get-spec = tie.close (tie.spec returns (λ c. search needs) (λ c κs. search needs) (λ c κs. search needs) returns-2)
+get-spec = tie.close (tie.spec returns (λ c. search needs) (λ c κs. search needs) returns-2)

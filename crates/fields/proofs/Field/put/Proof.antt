@@ -1,6 +1,5 @@
 -- `fields::Field::put` meets its contract, by `put-code`.
-use mathlib.Core.Path.{_≡_, sym}
-use Prim.Native.Nat.{_-_, _^_, min}
+use mathlib.Core.Path.{sym}
 use borrow.Author.Needs.{needs}
 use Rattle.fields.proofs.ShiftAndMask.{put-past, put-code}
 use Rattle.fields.proofs.Field.put.Statement.{statement}
@@ -13,11 +12,8 @@ returns c =
 
 returns-2 : tie.Need-returns-2
 returns-2 c =
-    let s = c .before .before .before .before .before .before in
-    let mask : c .before .before .ones .result ≡ 2 ^ min (s .args .self .width) (32 - s .args .self .place) - 1 = cc in
-    rw mask (put-code (s .args .word) (s .args .self .place) (s .args .self .width) (search needs) (s .fits .word .fits) (s .args .value))
+    let s = c .before .before .before .before .before in
+    rw (c .before .before .mask .ensures) (put-code (s .args .word) (s .args .self .place) (s .args .self .width) (search needs) (s .fits .word .fits) (s .args .value))
 
 pub put-spec : {M : Type 1} → statement M
-put-spec =
-    tie.close
-    (tie.spec returns (λ c κs. search needs) (λ c κs. search needs) (λ c. search needs) (λ c. search needs) returns-2)
+put-spec = tie.close (tie.spec returns (λ c κs. search needs) (λ c. search needs) (λ c. search needs) returns-2)

@@ -5,4 +5,4 @@ use Rattle.flat.proofs.out.put_ran.Statement.{statement}
 use Rattle.flat.proofs.out.put_ran.Tie as tie
 
 pub put-ran-spec : {M : Type 1} → statement M
-put-ran-spec = tie.close (tie.spec (λ c. search needs) (λ c. search needs) (λ c. search needs) (λ c κs. search needs) (λ c. search needs) (λ c κs. search needs) (λ c. search needs) (λ c κs. search needs) (λ c. rw (c .before .before .answer .given .1)) (λ c. rw (c .before .before .before .answer2 .given .1, c .before .number .ensures)) (λ c. rw (c .before .number2 .ensures, no-values (c .before .before .before .args .report .answer) (c .before .before .match .keys3))) (λ c. search needs))
+put-ran-spec = tie.close (tie.spec (λ c. search needs) (λ c. search needs) (λ c. search needs) (λ c. search needs) (λ c κs. search needs) (λ c. search needs) (λ c κs. search needs) (λ c. rw (c .before .before .answer .given .1)) (λ c. rw (c .before .before .answer2 .given .1)) (λ c. rw (c .before .number .ensures, no-values (c .before .before .before .args .report .answer) (c .before .before .match .keys3))) (λ c. search needs))

@@ -1,5 +1,5 @@
--- `nonblocking::lent::execute_watchdog` meets its contract: a walk of its MIR, by hand. It lends the link's fields to `lent_fields::execute_watchdog`, and hands the parameters that follow on as they are (`Thin.antt`).
--- All that the proof knows of `lent_fields::execute_watchdog` is that it meets its contract.
+-- `nonblocking::lent::execute_watchdog` meets its contract: a walk of its MIR, by hand. It lends the link's fields to `checks::watchdog::watchdog_fields`, and hands the parameters that follow on as they are (`Thin.antt`).
+-- All that the proof knows of `checks::watchdog::watchdog_fields` is that it meets its contract.
 use lib.ListN.{length}
 use contract.Lifetimes.{Lfts, Shares}
 use denote.RattleType.{Denots}
@@ -9,12 +9,12 @@ use denote.Signature.{Slot, typesAt}
 use denote.Slice.{slice-vals, shr-slice-tells, mut-slice-tells, shr-slice-lawful, mut-slice-lawful}
 use denote.Triple.End.{Kepts}
 use Rattle.nonblocking.proofs.Lending.{[], _∷_, List, refl, id⊢, URA, named, SProp, Memory, Routine, Heap, Calls, Loops, Atoms, Fun, FmC, Given, !, RefT, tripleOf, Contract, Triple, givenOf}
-use Rattle.nonblocking.specs.declared.link.Link.{Link}
+use Rattle.nonblocking.specs.declared.Link.{Link}
 use Rattle.nonblocking.proofs.Loans.{Names, lifetimes, shares, references, pointers}
 use Rattle.nonblocking.proofs.Thin.{others, Whole, Told, Runs, at, enters, thin-walk, thin-closes}
-use Rattle.lent_fields.proofs.execute_watchdog as callee
-use Rattle.lent_fields.proofs.execute_watchdog.Symbol as symbol
-use Rattle.lent_fields.proofs.execute_watchdog.Met as known
+use Rattle.checks.proofs.watchdog.watchdog_fields as callee
+use Rattle.checks.proofs.watchdog.watchdog_fields.Symbol as symbol
+use Rattle.checks.proofs.watchdog.watchdog_fields.Met as known
 use Rattle.nonblocking.proofs.lent.execute_watchdog as f
 use Rattle.nonblocking.proofs.lent.execute_watchdog.Key as key
 use Rattle.nonblocking.proofs.lent.execute_watchdog.Statement as stated
@@ -58,5 +58,5 @@ pub execute-watchdog-spec : {M : Type 1} → stated.statement M
 unfolding code.routine
 execute-watchdog-spec 𝓤 H 𝓜 𝓖 𝓡 =
     thin-closes 𝓤 H 𝓜 𝓖 𝓡 ss ks (f.clauses 𝓤 H (𝓖 .A) (𝓜 .mem) (𝓡 .run)) spelt (λ κs. (shr-slice-tells (named 1) (κs .1 .0) u32, (mut-slice-tells (named 2) (κs .1 .1 .0) u32, tt)))
-    code.env key.name code.function (code.unfolded 𝓤 H 𝓜 𝓡) (Callee 𝓤 H (𝓖 .A) (𝓜 .mem) (𝓡 .run)) symbol.name symbol.routine code.calls-lent-fields·execute-watchdog (known.met 𝓤 H 𝓜 𝓖 𝓡)
+    code.env key.name code.function (code.unfolded 𝓤 H 𝓜 𝓡) (Callee 𝓤 H (𝓖 .A) (𝓜 .mem) (𝓡 .run)) symbol.name symbol.routine code.calls-checks·watchdog·watchdog-fields (known.met 𝓤 H 𝓜 𝓖 𝓡)
     (λ C Λ fm met κs qs lk x g. walk 𝓤 H (𝓖 .A) (givenOf 𝓤 H 𝓜 𝓖) (𝓜 .mem) (𝓡 .run) C Λ fm met κs qs lk x)

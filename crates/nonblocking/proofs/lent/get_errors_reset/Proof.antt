@@ -9,12 +9,12 @@ use Rattle.nonblocking.proofs.Lending.{Link, Called, link-val, report-v
 use Rattle.ending.specs.Call.{getErrorsReset}
 use Rattle.ending.specs.Outcome.{outcome, Matches}
 use Rattle.nonblocking.specs.Model.{model}
-use Rattle.nonblocking.proofs.link.Link as L
-use Rattle.nonblocking.proofs.link.Called as R
+use Rattle.nonblocking.proofs.Link as L
+use Rattle.nonblocking.proofs.Called as R
 use Rattle.access.proofs.Report as P
-use Rattle.nonblocking.proofs.link.Link.get_errors_reset as method
-use Rattle.nonblocking.proofs.link.Link.get_errors_reset.Symbol as symbol
-use Rattle.nonblocking.proofs.link.Link.get_errors_reset.Met as known
+use Rattle.nonblocking.proofs.Link.get_errors_reset as method
+use Rattle.nonblocking.proofs.Link.get_errors_reset.Symbol as symbol
+use Rattle.nonblocking.proofs.Link.get_errors_reset.Met as known
 use Rattle.nonblocking.proofs.lent.get_errors_reset as f
 use Rattle.nonblocking.proofs.lent.get_errors_reset.Key as key
 use Rattle.nonblocking.proofs.lent.get_errors_reset.Statement as stated
@@ -78,7 +78,7 @@ get-errors-reset-spec 𝓤 H 𝓜 𝓖 𝓡 =
     let A = 𝓖 .A in
     let W = givenOf 𝓤 H 𝓜 𝓖 in
     let clauses = f.clauses 𝓤 H A (𝓜 .mem) (𝓡 .run) in
-    walk-closes 𝓤 H 𝓜 𝓖 𝓡 f.ended stayed clauses (Method 𝓤 H A (𝓜 .mem) (𝓡 .run)) code.env key.name code.function (code.unfolded 𝓤 H 𝓜 𝓡) symbol.name symbol.routine code.calls-nonblocking·link·Link·get-errors-reset (known.met 𝓤 H 𝓜 𝓖 𝓡)
+    walk-closes 𝓤 H 𝓜 𝓖 𝓡 f.ended stayed clauses (Method 𝓤 H A (𝓜 .mem) (𝓡 .run)) code.env key.name code.function (code.unfolded 𝓤 H 𝓜 𝓡) symbol.name symbol.routine code.calls-nonblocking·Link·get-errors-reset (known.met 𝓤 H 𝓜 𝓖 𝓡)
     (goes-ref 𝓤 H A W 1 0 tt (plain (λ _. L.the-row)), tt)
     (λ C Λ fm met. walked 𝓤 H A f.ended stayed clauses (WpFn 𝓤 H C Λ code.function) (λ κs. (ptr-vals, tt)) (λ κs. (mut-tells (named 0) (κs .0) L.the-row, tt))
     (λ κs qs bounds a _ _. via 𝓤 _ (fst∗ 𝓤 _ (emp 𝓤)) (walk 𝓤 H A W (𝓜 .mem) (𝓡 .run) (κs .0) (qs .0) (a .0) C Λ fm met)))

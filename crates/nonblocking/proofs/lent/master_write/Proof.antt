@@ -1,5 +1,5 @@
--- `nonblocking::lent::master_write` meets its contract: a walk of its MIR, by hand. It lends the link's fields to `lent_fields::write`, and hands the parameters that follow on as they are (`Thin.antt`).
--- All that the proof knows of `lent_fields::write` is that it meets its contract.
+-- `nonblocking::lent::master_write` meets its contract: a walk of its MIR, by hand. It lends the link's fields to `starts::master::write`, and hands the parameters that follow on as they are (`Thin.antt`).
+-- All that the proof knows of `starts::master::write` is that it meets its contract.
 use mir.Syntax.{w16}
 use denote.Plain.{uint-vals, uint-tells, uint-lawful}
 use lib.ListN.{length}
@@ -11,12 +11,12 @@ use denote.Signature.{Slot, typesAt}
 use denote.Slice.{slice-vals, shr-slice-tells, mut-slice-tells, shr-slice-lawful, mut-slice-lawful}
 use denote.Triple.End.{Kepts}
 use Rattle.nonblocking.proofs.Lending.{[], _∷_, List, refl, id⊢, URA, named, SProp, Memory, Routine, Heap, Calls, Loops, Atoms, Fun, FmC, Given, !, RefT, tripleOf, Contract, Triple, givenOf}
-use Rattle.nonblocking.specs.declared.link.Link.{Link}
+use Rattle.nonblocking.specs.declared.Link.{Link}
 use Rattle.nonblocking.proofs.Loans.{Names, lifetimes, shares, references, pointers}
 use Rattle.nonblocking.proofs.Thin.{others, Whole, Told, Runs, at, enters, thin-walk, thin-closes}
-use Rattle.lent_fields.proofs.write as callee
-use Rattle.lent_fields.proofs.write.Symbol as symbol
-use Rattle.lent_fields.proofs.write.Met as known
+use Rattle.starts.proofs.master.write as callee
+use Rattle.starts.proofs.master.write.Symbol as symbol
+use Rattle.starts.proofs.master.write.Met as known
 use Rattle.nonblocking.proofs.lent.master_write as f
 use Rattle.nonblocking.proofs.lent.master_write.Key as key
 use Rattle.nonblocking.proofs.lent.master_write.Statement as stated
@@ -60,5 +60,5 @@ pub master-write-spec : {M : Type 1} → stated.statement M
 unfolding code.routine
 master-write-spec 𝓤 H 𝓜 𝓖 𝓡 =
     thin-closes 𝓤 H 𝓜 𝓖 𝓡 ss ks (f.clauses 𝓤 H (𝓖 .A) (𝓜 .mem) (𝓡 .run)) spelt (λ κs. (uint-tells w16, (shr-slice-tells (named 1) (κs .1 .0) u8, (shr-slice-tells (named 2) (κs .1 .1 .0) u32, (mut-slice-tells (named 3) (κs .1 .1 .1 .0) u32, tt)))))
-    code.env key.name code.function (code.unfolded 𝓤 H 𝓜 𝓡) (Callee 𝓤 H (𝓖 .A) (𝓜 .mem) (𝓡 .run)) symbol.name symbol.routine code.calls-lent-fields·write (known.met 𝓤 H 𝓜 𝓖 𝓡)
+    code.env key.name code.function (code.unfolded 𝓤 H 𝓜 𝓡) (Callee 𝓤 H (𝓖 .A) (𝓜 .mem) (𝓡 .run)) symbol.name symbol.routine code.calls-starts·master·write (known.met 𝓤 H 𝓜 𝓖 𝓡)
     (λ C Λ fm met κs qs lk x g. walk 𝓤 H (𝓖 .A) (givenOf 𝓤 H 𝓜 𝓖) (𝓜 .mem) (𝓡 .run) C Λ fm met κs qs lk x)

@@ -20,7 +20,7 @@ returns c =
     let ws = x .words .now in
     let l = linkAt a w (x .index .now) (x .length) e h (x .«data» .now) in
     rw (lt-ltb (x .index .now) (x .length) (c .before .before .before .before .before .before .before .if1 .taken))
-    (kept (after (read ISR (getD ws 0 0)) (onRxne true (getD ws 1 0) (getD ws 2 0) l)) l ws (rw (c .before .before .before .before .before .before .word-at .ensures) at (c .before .before .before .before .answered .ensures)) (c .if2 .taken) (omega arith))
+    (kept (after (read ISR (getD ws 0 0)) (onRxne true (getD ws 1 0) (getD ws 2 0) l)) l ws (rw (c .before .before .before .before .before .before .word-at .ensures) at (c .before .before .before .before .pending .ensures)) (c .if2 .taken) (omega arith))
 
 returns-2 : tie.Need-returns-2
 returns-2 c =
@@ -29,7 +29,7 @@ returns-2 c =
     let ws = x .words .now in
     let l = linkAt a w (x .index .now) (x .length) e h (x .«data» .now) in
     rw (lt-ltb (x .index .now) (x .length) (c .before .before .before .before .before .before .before .before .if1 .taken), c .received .ensures, c .before .before .before .before .before .before .before .word-at .ensures)
-    (gone (after (read ISR (getD ws 0 0)) (onRxne true (getD ws 1 0) (getD ws 2 0) l)) l ws (rw (c .before .before .before .before .before .before .before .word-at .ensures) at (c .before .before .before .before .before .answered .ensures)) (c .before .if2 .left) refl)
+    (gone (after (read ISR (getD ws 0 0)) (onRxne true (getD ws 1 0) (getD ws 2 0) l)) l ws (rw (c .before .before .before .before .before .before .before .word-at .ensures) at (c .before .before .before .before .before .pending .ensures)) (c .before .if2 .left) refl)
 
 returns-3 : tie.Need-returns-3
 returns-3 c =
@@ -47,7 +47,7 @@ returns-4 c =
     let ws = x .words .now in
     let l = linkAt a w (x .index .now) (x .length) e h (x .«data» .now) in
     rw (le-ltb (x .index .now) (x .length) (c .before .before .before .before .before .before .before .if1 .left), sym (rw (c .before .before .before .before .before .before .word-at2 .ensures) at (c .before .before .before .before .before .is-set .ensures)) ∙ c .before .before .before .before .if3 .left)
-    (same (after (read ISR (getD ws 0 0)) (onFull false (getD ws 1 0) (getD ws 2 0) l)) l ws (rw (c .before .before .before .before .before .before .word-at2 .ensures) at (c .before .before .answered2 .ensures)) refl refl)
+    (same (after (read ISR (getD ws 0 0)) (onFull false (getD ws 1 0) (getD ws 2 0) l)) l ws (rw (c .before .before .before .before .before .before .word-at2 .ensures) at (c .before .before .pending2 .ensures)) refl refl)
 
 pub on-rxne-spec : {M : Type 1} → statement M
 on-rxne-spec = tie.close (tie.spec (λ c κs. tt) (λ c κs. tt) (λ c. search needs) returns (λ c κs. tt) (λ c. search needs) (λ c. search needs) (λ c. search needs) returns-2 (λ c κs. tt) (λ c κs. tt) (λ c κs. tt) (λ c. search needs) returns-3 (λ c κs. tt) (λ c. search needs) returns-4)

@@ -20,7 +20,7 @@ returns c =
     let ws = x .words .now in
     let l = linkAt a w (x .index .now) (x .length) e h (x .«data» .now) in
     rw (lt-ltb (x .index .now) (x .length) (c .before .before .before .before .before .before .before .if1 .taken))
-    (kept (after (read ISR (getD ws 0 0)) (onTxis true l)) l ws (rw (c .before .before .before .before .before .before .byte-out .ensures, lt-ltb (x .index .now) (x .length) (c .before .before .before .before .before .before .before .if1 .taken)) at (c .before .before .before .before .answered .ensures)) (c .if2 .taken) (omega arith))
+    (kept (after (read ISR (getD ws 0 0)) (onTxis true l)) l ws (rw (c .before .before .before .before .before .before .byte-out .ensures, lt-ltb (x .index .now) (x .length) (c .before .before .before .before .before .before .before .if1 .taken)) at (c .before .before .before .before .pending .ensures)) (c .if2 .taken) (omega arith))
 
 returns-2 : tie.Need-returns-2
 returns-2 c =
@@ -29,7 +29,7 @@ returns-2 c =
     let ws = x .words .now in
     let l = linkAt a w (x .index .now) (x .length) e h (x .«data» .now) in
     rw (lt-ltb (x .index .now) (x .length) (c .before .before .before .before .before .before .before .if1 .taken))
-    (gone (after (read ISR (getD ws 0 0)) (onTxis true l)) l ws (rw (c .before .before .before .before .before .before .byte-out .ensures, lt-ltb (x .index .now) (x .length) (c .before .before .before .before .before .before .before .if1 .taken)) at (c .before .before .before .before .answered .ensures)) (c .if2 .left) refl)
+    (gone (after (read ISR (getD ws 0 0)) (onTxis true l)) l ws (rw (c .before .before .before .before .before .before .byte-out .ensures, lt-ltb (x .index .now) (x .length) (c .before .before .before .before .before .before .before .if1 .taken)) at (c .before .before .before .before .pending .ensures)) (c .if2 .left) refl)
 
 returns-3 : tie.Need-returns-3
 returns-3 c =

@@ -33,30 +33,30 @@ loop-again : tie.Need-loop-again Inv-loop μ-loop
 loop-again c =
     let l = c .before .before .before .before .before .before .before .before .before .before .before .before .loop in
     let a = c .before .before .before .before .before .before .before .before .before .before .before .before .before .before .before .before .before .before .args in
-    let q = rw (c .before .enum-told .given .1) at (c .before .before .before .before .before .polled .ensures) in
+    let q = rw (c .enum-told .given .1) at (c .before .before .before .before .polled .ensures) in
     let h = c .before .before .before .before .before .before .before .before .before .before .before .left .ensures (c .before .before .before .before .before .before .before .before .before .before .if2 .taken) in
     let word : l .taken + 2 ≤ length (a .words .now) = omega (arith, h .1) in (
-      receives-on (l .inv .0) (omega arith) (omega (arith, q .1)) (c .before .before .before .before .before .polled .kept .1 .1 .1 .1 .1 .1 .0) (length-set (l .receive) (l .count) _)
-          (λ s p i e. rw (q .2, c .received .ensures) (receive-one s (a .words .now) (l .log) (l .receive) p (l .count) (l .taken) (l .logged) i e (h .0) word (q .1) (sym (c .before .before .before .before .before .before .before .is-set .ensures) ∙ q .0))),
+      receives-on (l .inv .0) (omega arith) (omega (arith, q .1)) (c .before .before .before .before .polled .kept .1 .1 .1 .1 .1 .1 .0) (length-set (l .receive) (l .count) _)
+          (λ s p i e. rw (q .2, c .before .before .before .before .before .before .before .before .byte-in .ensures) (receive-one s (a .words .now) (l .log) (l .receive) p (l .count) (l .taken) (l .logged) i e (h .0) word (q .1) (sym (c .before .before .before .before .before .before .is-set .ensures) ∙ q .0))),
       word,
     )
 
 loop-again-2 : tie.Need-loop-again-2 Inv-loop μ-loop
 loop-again-2 c =
-    let l = c .before .before .before .before .before .before .before .before .before .before .before .loop in
-    let a = c .before .before .before .before .before .before .before .before .before .before .before .before .before .before .before .before .before .args in
+    let l = c .before .before .before .before .before .before .before .before .before .before .before .before .loop in
+    let a = c .before .before .before .before .before .before .before .before .before .before .before .before .before .before .before .before .before .before .args in
     let q = rw (c .enum-told2 .given .1) at (c .before .before .before .before .polled .ensures) in
-    let h = c .before .before .before .before .before .before .before .before .before .before .left .ensures (c .before .before .before .before .before .before .before .before .before .if2 .taken) in (
+    let h = c .before .before .before .before .before .before .before .before .before .before .before .left .ensures (c .before .before .before .before .before .before .before .before .before .before .if2 .taken) in (
       receives-on (l .inv .0) (omega (arith, h .1)) (q .1) (c .before .before .before .before .polled .kept .1 .1 .1 .1 .1 .1 .0) refl
           (λ s p i e. rw (q .2) (idle s (a .words .now) (l .log) (l .receive) p (l .count) (l .taken) (l .logged) (l .logged + 2) (omega (arith, h .1)) (q .1) refl Rxne (wanted-in (atPhase p Wait (l .count)) i) (q .0))),
       omega (arith, h .1),
     )
 
 same-length-2 : tie.Need-same-length-2 Inv-loop μ-loop
-same-length-2 c = c .before .before .before .before .polled .kept .1 .1 .1 .1 .1 .1 .0 ∙ c .before .before .before .before .before .before .before .before .before .before .before .loop .inv .0 .long
+same-length-2 c = c .before .before .before .before .polled .kept .1 .1 .1 .1 .1 .1 .0 ∙ c .before .before .before .before .before .before .before .before .before .before .before .before .loop .inv .0 .long
 
 returns-2 : tie.Need-returns-2 Inv-loop μ-loop
-returns-2 c = rw (rw (c .enum-told3 .given .1) at (c .before .before .before .before .polled .ensures)) (c .before .before .before .before .before .before .before .before .before .before .before .loop .inv .0)
+returns-2 c = rw (rw (c .enum-told3 .given .1) at (c .before .before .before .before .polled .ensures)) (c .before .before .before .before .before .before .before .before .before .before .before .before .loop .inv .0)
 
 pub receive-bytes-spec : {M : Type 1} → statement M
-receive-bytes-spec = tie.close (tie.spec Inv-loop μ-loop returns loop-holds (λ c. omega (arith, c .loop .inv .1)) (λ c κs. tt) (λ c. omega (arith, c .before .left .ensures (c .if2 .taken) .1)) (λ c. omega (arith, c .before .left .ensures (c .if2 .taken) .1)) (λ c. omega (arith, c .before .before .left .ensures (c .before .if2 .taken) .1)) (λ c. omega (arith, c .before .before .left .ensures (c .before .if2 .taken) .1)) (λ c. omega (arith, c .before .before .before .left .ensures (c .before .before .if2 .taken) .1)) (λ c κs. tt) (λ c κs. tt) (λ c. search needs) (λ c κs. tt) (λ c. c .before .before .before .before .before .before .before .before .before .before .before .left .ensures (c .before .before .before .before .before .before .before .before .before .before .if2 .taken) .0) (λ c. omega (arith, c .before .before .before .before .before .before .before .before .before .before .before .left .ensures (c .before .before .before .before .before .before .before .before .before .before .if2 .taken) .0)) (λ c. omega (arith, c .before .before .before .before .before .before .before .before .before .before .before .left .ensures (c .before .before .before .before .before .before .before .before .before .before .if2 .taken) .1)) (λ c. omega (arith, (rw (c .before .enum-told .given .1) at (c .before .before .before .before .before .polled .ensures)) .1)) (λ c. omega (arith, c .before .before .before .before .before .before .before .before .before .before .before .left .ensures (c .before .before .before .before .before .before .before .before .before .before .if2 .taken) .1)) loop-again (λ c. search needs) (λ c. omega (arith, c .before .before .before .before .before .before .before .before .before .before .left .ensures (c .before .before .before .before .before .before .before .before .before .if2 .taken) .1)) (λ c. omega (arith, (rw (c .enum-told2 .given .1) at (c .before .before .before .before .polled .ensures)) .1)) (λ c. omega (arith, c .before .before .before .before .before .before .before .before .before .before .left .ensures (c .before .before .before .before .before .before .before .before .before .if2 .taken) .1)) loop-again-2 (λ c. search needs) (λ c. c .before .before .before .before .before .before .before .before .before .before .before .loop .inv .0 .wide) same-length-2 returns-2 (λ c. c .before .before .loop .inv .0 .wide) (λ c. c .before .before .loop .inv .0 .long) (λ c. c .before .before .loop .inv .0))
+receive-bytes-spec = tie.close (tie.spec Inv-loop μ-loop returns loop-holds (λ c. omega (arith, c .loop .inv .1)) (λ c κs. tt) (λ c. omega (arith, c .before .left .ensures (c .if2 .taken) .1)) (λ c. omega (arith, c .before .left .ensures (c .if2 .taken) .1)) (λ c. omega (arith, c .before .before .left .ensures (c .before .if2 .taken) .1)) (λ c κs. tt) (λ c. omega (arith, c .before .before .before .left .ensures (c .before .before .if2 .taken) .1)) (λ c. omega (arith, c .before .before .before .before .left .ensures (c .before .before .before .if2 .taken) .1)) (λ c κs. tt) (λ c κs. tt) (λ c. search needs) (λ c. c .before .before .before .before .before .before .before .before .before .before .before .left .ensures (c .before .before .before .before .before .before .before .before .before .before .if2 .taken) .0) (λ c. omega (arith, c .before .before .before .before .before .before .before .before .before .before .before .left .ensures (c .before .before .before .before .before .before .before .before .before .before .if2 .taken) .0)) (λ c. omega (arith, c .before .before .before .before .before .before .before .before .before .before .before .left .ensures (c .before .before .before .before .before .before .before .before .before .before .if2 .taken) .1)) (λ c. omega (arith, (rw (c .enum-told .given .1) at (c .before .before .before .before .polled .ensures)) .1)) (λ c. omega (arith, c .before .before .before .before .before .before .before .before .before .before .before .left .ensures (c .before .before .before .before .before .before .before .before .before .before .if2 .taken) .1)) loop-again (λ c. search needs) (λ c. omega (arith, c .before .before .before .before .before .before .before .before .before .before .before .left .ensures (c .before .before .before .before .before .before .before .before .before .before .if2 .taken) .1)) (λ c. omega (arith, (rw (c .enum-told2 .given .1) at (c .before .before .before .before .polled .ensures)) .1)) (λ c. omega (arith, c .before .before .before .before .before .before .before .before .before .before .before .left .ensures (c .before .before .before .before .before .before .before .before .before .before .if2 .taken) .1)) loop-again-2 (λ c. search needs) (λ c. c .before .before .before .before .before .before .before .before .before .before .before .before .loop .inv .0 .wide) same-length-2 returns-2 (λ c. c .before .before .loop .inv .0 .wide) (λ c. c .before .before .loop .inv .0 .long) (λ c. c .before .before .loop .inv .0))

@@ -5,10 +5,10 @@ use Rattle.text.proofs.input.next_line.Statement.{statement}
 use Rattle.text.proofs.input.next_line.Tie as tie
 
 abbrev Inv-loop : tie.InvT-loop
-Inv-loop buffer₀ line₀ at₀ end₀ count₀ turns₀ buffer line at end count turns = 0 ≤ turns
+Inv-loop buffer₀ line₀ next₀ turns₀ buffer line next turns = 0 ≤ turns
 
 abbrev μ-loop : tie.MeasureT-loop
-μ-loop buffer₀ line₀ at₀ end₀ count₀ turns₀ buffer line at end count turns = turns
+μ-loop buffer₀ line₀ next₀ turns₀ buffer line next turns = turns
 
 pub next-line-spec : {M : Type 1} → statement M
 next-line-spec =
@@ -20,9 +20,7 @@ next-line-spec =
     (λ c κs. search needs)
     (λ c. search needs)
     (λ c. search needs)
-    (λ c. search needs)
-    (λ c. search needs)
-    (λ c. search needs)
+    (λ c κs. search needs)
     (λ c. search needs)
     (λ c. search needs)
     (λ c. search needs)

@@ -51,15 +51,17 @@ returns-5 c =
     let a = n .before .before .before .before .before .before .args in
     let kb = c .before .before .before .before .keep-byte in
     let one : 1 ≤ length (a .words .now) = omega (arith, c .before .before .before .before .before .before .before .before .if1 .left) in
-    turned-step (a .send .now) (a .call) (c .before .after .result) (a .receive .now) (kb .last .1 .1 .1 .0) (a .words .now) (a .log .now) 1 _ _ (c .turn .result) (c .turn .ensures) (c .before .before .before .before .before .before .before .if2 .left) one
-    (λ k. rw (c .before .after .ensures, kb .ensures) (run-read (a .send .now) (a .call) (a .receive .now) k (a .words .now) _ _ (move n ∙ c .before .before .before .before .before .before .before .before .before .before .next2 .given .1) (c .before .before .before .before .before .before .before .before .if1 .left)))
+    rw (c .stepped .ensures .made)
+    (turned-step (a .send .now) (a .call) (c .before .after .result) (a .receive .now) (kb .last .1 .1 .1 .0) (a .words .now) (a .log .now) 1 _ _ (c .stepped .result .turn) (c .stepped .ensures .told) (c .before .before .before .before .before .before .before .if2 .left) one
+    (λ k. rw (c .before .after .ensures, kb .ensures) (run-read (a .send .now) (a .call) (a .receive .now) k (a .words .now) _ _ (move n ∙ c .before .before .before .before .before .before .before .before .before .before .next2 .given .1) (c .before .before .before .before .before .before .before .before .if1 .left))))
 
 returns-6 : tie.Need-returns-6
 returns-6 c =
     let n = c .before .before .before .before .before .before in
     let a = n .before .before .before .before .before .before .args in
-    turned-step (a .send .now) (a .call) (c .before .after2 .result) (a .receive .now) (a .receive .now) (a .words .now) (a .log .now) 0 _ _ (c .turn2 .result) (c .turn2 .ensures) (c .before .before .if3 .left) zero-le
-    (λ k. rw (c .before .after2 .ensures) (run-write (a .send .now) (a .call) (a .receive .now) k (a .words .now) _ _ (move n ∙ c .before .before .before .before .next3 .given .1)))
+    rw (c .stepped2 .ensures .made)
+    (turned-step (a .send .now) (a .call) (c .before .after2 .result) (a .receive .now) (a .receive .now) (a .words .now) (a .log .now) 0 _ _ (c .stepped2 .result .turn) (c .stepped2 .ensures .told) (c .before .before .if3 .left) zero-le
+    (λ k. rw (c .before .after2 .ensures) (run-write (a .send .now) (a .call) (a .receive .now) k (a .words .now) _ _ (move n ∙ c .before .before .before .before .next3 .given .1))))
 
 pub advance-spec : {M : Type 1} → statement M
 advance-spec =

@@ -1,2 +1,0 @@
--- What the small functions of the parser compute.
-pub mod HexDigits
