@@ -8,6 +8,12 @@ use answers::MASTER_READ_SLAVE_WRITE;
 use answers::MASTER_WRITE_SLAVE_READ;
 use fields::Field;
 
+// What the blocking `listen` can ask for: ADDR or RXNE.
+pub enum Event {
+    AddressMatch,
+    Rxne,
+}
+
 pub struct Isr;
 
 impl Isr {

@@ -7,8 +7,8 @@ use Rattle.answers.specs.Answers.{says}
 use Rattle.access.specs.Access.{Access, read, write, Settled, settled}
 use Rattle.fields.specs.Layout.{CR1, ICR, ADDR}
 use Rattle.fields.specs.Words.{byteControl, addressInterrupt, receiveInterrupt, cleared}
-use Rattle.never_wait.specs.declared.Event.{Event}
-use Rattle.never_wait.specs.declared.Event.the-variants.{AddressMatch, Rxne}
+use Rattle.flags.specs.declared.Event.{Event}
+use Rattle.flags.specs.declared.Event.the-variants.{AddressMatch, Rxne}
 
 -- a `modify` of CR1
 abbrev pub modified : (ℕ → ℕ) → List ℕ → ℕ → Settled

@@ -4,24 +4,22 @@ ghost use Rattle.access.specs.Access.{Reported};
 ghost use Rattle.never_wait.specs.NeverWait.{interruptWord, interrupt, clearIrq};
 ghost use mathlib.Core.Path.{_≡_};
 ghost use mathlib.Core.Bool.{Bool};
-use crate::Event;
 use access::Report;
 use answers::Answer;
+use flags::Event;
 use flags::Icr;
 use flags::Isr;
 use registers::cr1::Cr1;
 use settling::settle;
 use settling::word_at;
 
-impl Event {
-    // The event's interrupt switched in CR1.
-    fn switched(self, cr1: u32, on: bool) -> u32
-        ensures { λ r. ⌜ r ≡ interruptWord self cr1 on ⌝ }
-    {
-        match self {
-            Event::AddressMatch => Cr1::ADDRIE.switch(cr1, on),
-            Event::Rxne => Cr1::RXIE.switch(cr1, on),
-        }
+// The event's interrupt switched in CR1.
+fn switched(event: Event, cr1: u32, on: bool) -> u32
+    ensures { λ r. ⌜ r ≡ interruptWord event cr1 on ⌝ }
+{
+    match event {
+        Event::AddressMatch => Cr1::ADDRIE.switch(cr1, on),
+        Event::Rxne => Cr1::RXIE.switch(cr1, on),
     }
 }
 
@@ -32,7 +30,7 @@ fn switch(event: Event, on: bool, words: &[u32], log: &mut [u32]) -> Report
     settle(
         Answer::Done,
         1,
-        &[Cr1::READ, cr1, Cr1::WRITE, event.switched(cr1, on)],
+        &[Cr1::READ, cr1, Cr1::WRITE, switched(event, cr1, on)],
         words,
         log,
     )

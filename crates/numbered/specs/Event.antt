@@ -2,8 +2,8 @@
 use Prim.Native.Nat.{ℕ}
 use mathlib.Core.Bool.{cond}
 use lib.Dec.{ltb}
-use Rattle.never_wait.specs.declared.Event.{Event}
-use Rattle.never_wait.specs.declared.Event.the-variants.{AddressMatch, Rxne}
+use Rattle.flags.specs.declared.Event.{Event}
+use Rattle.flags.specs.declared.Event.the-variants.{AddressMatch, Rxne}
 
 -- 0: an address match; every other number: a byte received
 abbrev pub eventOf : ℕ → Event

@@ -11,23 +11,6 @@ use blocking::slave::slave_write;
 use numbered::call::take_up;
 use script::calls::*;
 
-// The slave's calls begun, or the parked call resumed.
-fn run_slave(
-    parked: &[u64; 7],
-    call: Call,
-    send: &[u8],
-    recv: &mut [u8],
-    words: &[u32],
-    log: &mut [u32],
-) -> Ran {
-    match call {
-        BL_SLAVE_WRITE => slave_write(send, words, log),
-        BL_SLAVE_READ => slave_read(recv, words, log),
-        BL_SLAVE_WAIT_ADDRESSED => slave_wait_addressed(words, log),
-        _ => resume(take_up(parked), 0, send, recv, words, log),
-    }
-}
-
 // A call begun, or the parked one resumed, with the slices that it has from now on: of `recv` so many places.
 pub(crate) fn run_call(
     parked: &[u64; 7],
@@ -45,6 +28,9 @@ pub(crate) fn run_call(
         BL_WRITE => write(address, send, words, log),
         BL_READ => read(address, lent, words, log),
         BL_WRITE_READ => write_read(address, send, lent, words, log),
-        _ => run_slave(parked, call, send, lent, words, log),
+        BL_SLAVE_WRITE => slave_write(send, words, log),
+        BL_SLAVE_READ => slave_read(lent, words, log),
+        BL_SLAVE_WAIT_ADDRESSED => slave_wait_addressed(words, log),
+        _ => resume(take_up(parked), 0, send, lent, words, log),
     }
 }

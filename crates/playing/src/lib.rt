@@ -1,10 +1,8 @@
-// What the programs do with the drivers: a line of a script, but for the blocking calls that wait, with the lines of every outcome; and a walk.
-mod ahead;
+// What a line of a script does, but for the blocking calls that wait, and the lines that a call's outcome is.
 mod link;
 pub mod outcome;
 mod settings;
 mod unwaited;
-pub mod walk;
 
 use nonblocking::Link;
 

@@ -27,7 +27,7 @@ fn six(report: Report) -> [u64; 6] {
     six
 }
 
-pub(crate) fn told(called: Called) -> Played {
+fn told(called: Called) -> Played {
     let link = called.link;
     let report = called.report;
     Played {
@@ -113,6 +113,6 @@ pub fn add_outcome(
     let six = played.six;
     let used = add(out, used, begin(b'>').number(number, TEN, ALL).byte(b'\n'));
     // No answer but of a link shows bytes.
-    let used = add_call(out, used, log, &six, &data);
+    let used = add_call(out, used, log, six, data);
     add_shown(out, used, call, link, recv, received)
 }

@@ -76,13 +76,13 @@ pub fn add_call(
     out: &mut Buffer,
     used: usize,
     log: &[u32],
-    six: &[u64; 6],
-    data: &[u8; 255],
+    six: [u64; 6],
+    data: [u8; 255],
 ) -> usize {
     let number = six[0];
     let first = six[3];
     let count = shown(number, first, six[5]);
     let line = told(number, first, six[4]);
     let used = accesses(out, used, log, six[2] as usize);
-    add_bytes(out, used, line, data, count)
+    add_bytes(out, used, line, &data, count)
 }

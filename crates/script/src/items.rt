@@ -72,47 +72,6 @@ fn asked(call: Call, place: usize, key: &[u8]) -> usize {
     NONE
 }
 
-// How the number of a slot is written: its base, and up to which one.
-struct Form {
-    pub base: u64,
-    pub top: u64,
-}
-
-fn form_of(slot: usize) -> Form {
-    match slot {
-        LOG | WATCHDOG => Form {
-            base: 10,
-            top: 0xFFFF,
-        },
-        INDEX | COUNT | SECOND_HALF => Form {
-            base: 10,
-            top: 0xFFFF_FFFF_FFFF_FFFF,
-        },
-        ERRORS | SPEED | CLOCK => Form {
-            base: 10,
-            top: 0xFFFF_FFFF,
-        },
-        FILTER | DNF | LENGTH => Form {
-            base: 10,
-            top: 0xFF,
-        },
-        OWN_7 | ADDRESS_8 => Form {
-            base: 16,
-            top: 0xFF,
-        },
-        TIMING | PERIOD => Form {
-            base: 16,
-            top: 0xFFFF_FFFF,
-        },
-        ANALOG => Form { base: 2, top: 0 },
-        SBC => Form { base: 2, top: 1 },
-        _ => Form {
-            base: 16,
-            top: 0xFFFF,
-        },
-    }
-}
-
 // 0 for addr and 1 for rxne.
 fn event(token: &[u8]) -> Number {
     let event = which(token, b"addr rxne ", 0);
@@ -137,11 +96,16 @@ fn read(slot: usize, token: &[u8], place: usize) -> Number {
         OWN_2 => masked(token),
         EVENT => event(token),
         DATA | SEND | RECV => placed(slot, token, place),
+        LOG | WATCHDOG => number(token, 10, 0xFFFF),
+        INDEX | COUNT | SECOND_HALF => number(token, 10, 0xFFFF_FFFF_FFFF_FFFF),
+        ERRORS | SPEED | CLOCK => number(token, 10, 0xFFFF_FFFF),
+        FILTER | DNF | LENGTH => number(token, 10, 0xFF),
+        OWN_7 | ADDRESS_8 => number(token, 16, 0xFF),
+        TIMING | PERIOD => number(token, 16, 0xFFFF_FFFF),
+        ANALOG => number(token, 2, 0),
+        SBC => number(token, 2, 1),
         NONE => Number::None,
-        _ => {
-            let form = form_of(slot);
-            number(token, form.base, form.top)
-        }
+        _ => number(token, 16, 0xFFFF),
     }
 }
 

@@ -42,7 +42,11 @@ pub fn settle(
     ensures { λ r. ⌜ Reported (settle (said answer) reads (now (entries .entry)) (length (now (words .entry))) (length (now (log .entry)))) (now (log .entry)) r (now (log .exit)) ⌝ }
 {
     if words.len() < reads {
-        return refused(Answer::OutOfWords);
+        return Report {
+            answer: Answer::OutOfWords,
+            taken: 0,
+            logged: 0,
+        };
     }
     if write_log(log, entries) {
         return Report {
@@ -51,7 +55,11 @@ pub fn settle(
             logged: entries.len(),
         };
     }
-    refused(Answer::LogFull)
+    Report {
+        answer: Answer::LogFull,
+        taken: 0,
+        logged: 0,
+    }
 }
 
 // A refusal takes no words and logs nothing.

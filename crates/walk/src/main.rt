@@ -1,6 +1,6 @@
 // Standard input has one word a line, eight hex digits; any other line ends it, and so does an answer 9.
-use playing::walk::run;
 use text::input::START;
+use walking::run::run;
 
 fn main() {
     let mut buffer = io::buffer();

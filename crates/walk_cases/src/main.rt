@@ -1,8 +1,8 @@
 // Several walks, one after the other: each ends at a line that is no word, and the next begins after that line.
 use libc::STDOUT_FILENO;
-use playing::walk::run;
 use text::input::NO_LINE;
 use text::input::START;
+use walking::run::run;
 
 fn main() {
     let mut buffer = io::buffer();

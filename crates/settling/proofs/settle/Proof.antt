@@ -7,7 +7,7 @@ use Rattle.settling.proofs.settle.Tie as tie
 
 returns : tie.Need-returns
 returns c =
-    rw (lt-leb _ _ (c .before .if1 .taken), c .refused .ensures) (record { answer = refl; taken = refl; logged = refl; log = refl })
+    rw (lt-leb _ _ (c .if1 .taken)) (record { answer = refl; taken = refl; logged = refl; log = refl })
 
 returns-2 : tie.Need-returns-2
 returns-2 c =
@@ -17,9 +17,9 @@ returns-2 c =
 
 returns-3 : tie.Need-returns-3
 returns-3 c =
-    let put = c .before .before .before .before .write-log .ensures in
-    rw (le-leb _ _ (c .before .before .before .before .before .before .if1 .left), sym (put .room) ∙ c .before .if2 .left, c .refused2 .ensures)
-    (record { answer = refl; taken = refl; logged = refl; log = rw (c .before .if2 .left) at (put .log) })
+    let put = c .before .before .before .write-log .ensures in
+    rw (le-leb _ _ (c .before .before .before .before .before .if1 .left), sym (put .room) ∙ c .if2 .left)
+    (record { answer = refl; taken = refl; logged = refl; log = rw (c .if2 .left) at (put .log) })
 
 pub settle-spec : {M : Type 1} → statement M
-settle-spec = tie.close (tie.spec (λ c κs. tt) returns (λ c κs. tt) (λ c. search needs) returns-2 (λ c κs. tt) (λ c. search needs) returns-3)
+settle-spec = tie.close (tie.spec returns (λ c κs. tt) (λ c. search needs) returns-2 (λ c. search needs) returns-3)

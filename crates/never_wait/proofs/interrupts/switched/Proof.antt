@@ -1,7 +1,7 @@
--- `never_wait::Event::switched` meets its contract.
+-- `never_wait::interrupts::switched` meets its contract.
 use borrow.Author.Needs.{needs}
-use Rattle.never_wait.proofs.Event.switched.Statement.{statement}
-use Rattle.never_wait.proofs.Event.switched.Tie as tie
+use Rattle.never_wait.proofs.interrupts.switched.Statement.{statement}
+use Rattle.never_wait.proofs.interrupts.switched.Tie as tie
 
 returns : tie.Need-returns
 returns c = rw (c .before .enum-told .given .1) (c .switch .ensures)

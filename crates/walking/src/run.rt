@@ -1,10 +1,9 @@
 // A walk: `master_write_read` to 0x50 with 01 40 and read length 2, and then checks while words are left.
 ghost use Prim.Native.Nat.{_≤_};
-use crate::Played;
 use crate::ahead::Ahead;
 use crate::ahead::fill;
 use crate::ahead::without;
-use crate::outcome::told;
+use flat::out::put;
 use nonblocking::Called;
 use nonblocking::Link;
 use print::buffer::Buffer;
@@ -20,15 +19,18 @@ struct Walked {
     pub used: usize,
 }
 
-fn printed(played: Played, log: &[u32; 10], out: &mut Buffer, used: usize) -> Walked {
-    let link = played.link;
+fn printed(called: Called, log: &[u32; 10], out: &mut Buffer, used: usize) -> Walked {
+    let link = called.link;
     let data = link.data;
-    let six = played.six;
+    let report = called.report;
+    let answer = report.answer;
+    let mut six = [0u64; 6];
+    put(report, &mut six);
     Walked {
         link,
-        taken: six[1] as usize,
-        lacking: six[0] == 9,
-        used: add_call(out, used, log, &six, &data),
+        taken: report.taken,
+        lacking: answer.number() == 9,
+        used: add_call(out, used, log, six, data),
     }
 }
 
@@ -59,7 +61,7 @@ fn step(
     let mut log = [0u32; 10];
     let count = at_most_three(count);
     let called = call(link, is_first, &words[0..count], &mut log);
-    printed(told(called), &log, out, used)
+    printed(called, &log, out, used)
 }
 
 // One walk, from a place of the input on. Answers the place after it.

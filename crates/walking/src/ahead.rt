@@ -14,55 +14,41 @@ pub(crate) struct Ahead {
     pub input: Input,
 }
 
-// What a line of so many characters is: a word is eight hex digits, in either case.
-fn line_word(line: &Text, count: usize) -> Number {
-    if count == 8 {
-        return number(part(line, 0, 8), 16, 0xFFFF_FFFF);
-    }
-    Number::None
-}
-
-// One word more.
-fn with_word(ahead: Ahead, word: u64) -> Ahead {
+// The words with the line that was read, which is one more, eight hex digits in either case, or ends them.
+fn with_line(ahead: Ahead, line: &Text, input: Input) -> Ahead {
     let mut next = ahead;
     let count = ahead.count;
+    next.input = input;
     if count < 3 {
-        next.words[count] = (word % 0x1_0000_0000) as u32;
-        next.count = count + 1;
+        if input.count == 8 {
+            let found = number(part(line, 0, 8), 16, 0xFFFF_FFFF);
+            if let Number::Value(word) = found {
+                next.words[count] = (word % 0x1_0000_0000) as u32;
+                next.count = count + 1;
+                return next;
+            }
+        }
     }
+    next.open = false;
     next
 }
 
-// One line more, which is a word or ends them.
-fn with_line(ahead: Ahead, line: &Text, input: Input) -> Ahead {
-    let mut next = ahead;
-    next.input = input;
-    let found = line_word(line, input.count);
-    match found {
-        Number::Value(word) => with_word(next, word),
-        Number::None => {
-            next.open = false;
-            next
+// One word more, where there are not yet three and no other line has come.
+fn more(ahead: Ahead, buffer: &mut [u8; 4096], line: &mut Text) -> Ahead {
+    if ahead.count < 3 {
+        if ahead.open {
+            let input = next_line(buffer, ahead.input, line);
+            return with_line(ahead, line, input);
         }
     }
+    ahead
 }
 
 // Reads ahead until there are three words or another line has come.
 pub(crate) fn fill(ahead: Ahead, buffer: &mut [u8; 4096], line: &mut Text) -> Ahead {
-    let mut next = ahead;
-    let mut turns: usize = 3;
-    while 0 < turns {
-        if 3 <= next.count {
-            return next;
-        }
-        if !next.open {
-            return next;
-        }
-        let input = next_line(buffer, next.input, line);
-        next = with_line(next, line, input);
-        turns -= 1;
-    }
-    next
+    let one = more(ahead, buffer, line);
+    let two = more(one, buffer, line);
+    more(two, buffer, line)
 }
 
 // What is left after a call took its words.
