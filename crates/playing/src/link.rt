@@ -1,12 +1,12 @@
 // The calls of the non-blocking driver.
 use crate::settings::configuration;
-use settling::refused;
 use answers::Answer;
 use nonblocking::Called;
 use nonblocking::Link;
 use script::calls::*;
 use script::parse::bytes_of;
 use script::slots::*;
+use settling::refused;
 use text::Bytes;
 use text::tokens::part;
 

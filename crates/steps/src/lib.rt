@@ -22,7 +22,7 @@ pub mod received;
 pub mod sent;
 
 // ISR was read, and one more register is read or written.
-pub fn answered(
+pub(crate) fn answered(
     answer: Answer,
     reads: usize,
     register: u32,
@@ -37,7 +37,7 @@ pub fn answered(
 }
 
 // The same for a check that is pending: an answer handed on makes a caller's proof longer.
-pub fn pending(
+pub(crate) fn pending(
     reads: usize,
     register: u32,
     word: u32,

@@ -65,7 +65,7 @@ fn step(
 }
 
 // One walk, from a place of the input on. Answers the place after it.
-pub fn run(buffer: &mut [u8; 4096], input: Input) -> Input {
+pub(crate) fn run(buffer: &mut [u8; 4096], input: Input) -> Input {
     let mut line = [0u8; 32768];
     let mut out = io::large_buffer();
     let mut ahead = Ahead {

@@ -1,8 +1,8 @@
--- `walking::run::run` is safe and ends.
+-- `walk::run::run` is safe and ends.
 use Prim.Native.Nat.{_-_, _≤_}
 use borrow.Author.Needs.{needs}
-use Rattle.walking.proofs.run.run.Statement.{statement}
-use Rattle.walking.proofs.run.run.Tie as tie
+use Rattle.walk.proofs.run.run.Statement.{statement}
+use Rattle.walk.proofs.run.run.Tie as tie
 
 abbrev Inv-loop : tie.InvT-loop
 Inv-loop buffer₀ line₀ out₀ ahead₀ walked₀ calls₀ buffer line out ahead walked calls = 0 ≤ calls

@@ -1,14 +1,14 @@
--- `walk_cases::main` is safe and ends.
+-- `walk::main` is safe and ends.
 use Prim.Native.Nat.{_≤_}
 use borrow.Author.Needs.{needs}
-use Rattle.walk_cases.proofs.main.Statement.{statement}
-use Rattle.walk_cases.proofs.main.Tie as tie
+use Rattle.walk.proofs.main.Statement.{statement}
+use Rattle.walk.proofs.main.Tie as tie
 
 abbrev Inv-loop : tie.InvT-loop
-Inv-loop buffer₀ input₀ turns₀ t4 buffer input turns = 0 ≤ turns
+Inv-loop buffer₀ input₀ left₀ t4 buffer input left = 0 ≤ left
 
 abbrev μ-loop : tie.MeasureT-loop
-μ-loop buffer₀ input₀ turns₀ t4 buffer input turns = turns
+μ-loop buffer₀ input₀ left₀ t4 buffer input left = left
 
 pub main-spec : {M : Type 1} → statement M
 main-spec =
@@ -17,11 +17,15 @@ main-spec =
     Inv-loop
     μ-loop
     (λ c κs. search needs)
+    (λ c κs. search needs)
+    (λ c κs. search needs)
     (λ c. search needs)
     (λ c κs. search needs)
     (λ c. search needs)
     (λ c. search needs)
+    (λ c. search needs)
     (λ c κs. search needs)
+    (λ c. search needs)
     (λ c. search needs)
     (λ c. search needs)
     (λ c. search needs)
