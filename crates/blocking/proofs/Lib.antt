@@ -1,1 +1,4 @@
+pub mod Bounds
+pub mod Finish
+pub mod OneTurn
 pub mod Wholes

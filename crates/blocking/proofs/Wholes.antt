@@ -19,10 +19,10 @@ use Rattle.stretches.specs.declared.Turn.{Turn}
 use Rattle.stretches.specs.declared.Turn.the-variants.{Over}
 use Rattle.stretches.specs.declared.Progress.{Progress}
 use Rattle.courses.specs.Courses.{Stands, Follows, fresh}
-use Rattle.turns.specs.Steps.{Answered}
-use Rattle.turns.proofs.OneTurn.{put-rest}
-use Rattle.turns.proofs.Bounds.{taken-fits, logged-fits, part-fits}
-use Rattle.turns.proofs.Finish.{going-none, from-start, rest-whole, finish}
+use Rattle.blocking.specs.Steps.{Answered}
+use Rattle.blocking.proofs.OneTurn.{put-rest}
+use Rattle.blocking.proofs.Bounds.{taken-fits, logged-fits, part-fits}
+use Rattle.blocking.proofs.Finish.{going-none, from-start, rest-whole, finish}
 
 -- the whole run: what follows plainly, and then the run over the parts that are left, as the borrow checker has them
 module _ {s ws log b : List ℕ} {p : Parked} {log₁ b₁ : List ℕ} {q : Progress} {r : Ran} {ys b′ : List ℕ} (k : Follows s ws log b (fresh p) log₁ b₁ q)

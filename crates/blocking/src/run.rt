@@ -10,8 +10,8 @@ use parked::Phase;
 use runs::Ran;
 use slices::first_left;
 use stretches::Turn;
-use turns::run::answered;
-use turns::run::one_by_one;
+use crate::turns::answered;
+use crate::turns::one_by_one;
 
 // The whole run of a call that is not wrong: as far as it follows plainly, and then whatever else comes.
 fn course(call: Parked, send: &[u8], receive: &mut [u8], words: &[u32], log: &mut [u32]) -> Ran

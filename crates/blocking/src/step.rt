@@ -1,6 +1,6 @@
 // One access of a run, over the words and the log that are left.
 ghost use mathlib.Core.Path.{_≡_};
-ghost use Rattle.turns.specs.Steps.{Told, Stepped, Turned};
+ghost use Rattle.blocking.specs.Steps.{Told, Stepped, Turned};
 use parked::End;
 use parked::Next;
 use parked::Parked;

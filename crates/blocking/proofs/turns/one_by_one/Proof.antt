@@ -1,14 +1,14 @@
--- `turns::run::one_by_one` meets its contract: one record is the invariant of both loops.
+-- `blocking::turns::one_by_one` meets its contract: one record is the invariant of both loops.
 use Prim.Native.Nat.{_-_, zero-le}
 use native.Mathlib.Omega.{arith}
 use lib.ListN.{length}
 use borrow.Author.Needs.{needs}
 use Rattle.stretches.proofs.Carries.{carried-none, carried-on}
 use Rattle.stretches.specs.Stretches.{Carried}
-use Rattle.turns.proofs.OneTurn.{carried-step, shorter, more-again, more-found}
-use Rattle.turns.proofs.Finish.{ended}
-use Rattle.turns.proofs.run.one_by_one.Statement.{statement}
-use Rattle.turns.proofs.run.one_by_one.Tie as tie
+use Rattle.blocking.proofs.OneTurn.{carried-step, shorter, more-again, more-found}
+use Rattle.blocking.proofs.Finish.{ended}
+use Rattle.blocking.proofs.turns.one_by_one.Statement.{statement}
+use Rattle.blocking.proofs.turns.one_by_one.Tie as tie
 
 abbrev Inv-loop : tie.InvT-loop
 Inv-loop send receive₀ words log₀ p₀ receive log p = Carried send words log₀ receive₀ p₀ log receive p

@@ -1,13 +1,13 @@
--- `turns::run::forward` meets its contract: what the part does is one access of the whole run.
+-- `blocking::turns::forward` meets its contract: what the part does is one access of the whole run.
 use native.Mathlib.Nat.{lt-of-le-of-lt}
 use mathlib.Core.Path.{_≡_, refl, sym, ap, _∙_}
 use Prim.Native.Nat.{ℕ, _+_, _≤_}
 use lib.ListN.{length}
-use Rattle.turns.proofs.Bounds.{part-fits}
-use Rattle.turns.proofs.OneTurn.{forward-part}
+use Rattle.blocking.proofs.Bounds.{part-fits}
+use Rattle.blocking.proofs.OneTurn.{forward-part}
 use borrow.Author.Needs.{needs}
-use Rattle.turns.proofs.run.forward.Statement.{statement}
-use Rattle.turns.proofs.run.forward.Tie as tie
+use Rattle.blocking.proofs.turns.forward.Statement.{statement}
+use Rattle.blocking.proofs.turns.forward.Tie as tie
 
 add-t14 : tie.Need-add-t14
 add-t14 c =

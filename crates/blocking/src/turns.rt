@@ -1,8 +1,8 @@
-// Running a call in single turns.
+// A run in single turns, one access after the other. It is right for every call, whatever words come.
 ghost use Prim.Native.Nat.{_≤_};
 ghost use lib.ListN.{length};
 ghost use Rattle.runs.specs.Run.{runs, room, Whole};
-ghost use Rattle.turns.specs.Steps.{Answered, Forward};
+ghost use Rattle.blocking.specs.Steps.{Answered, Forward};
 use crate::step::advance;
 use parked::End;
 use parked::Parked;
@@ -30,7 +30,7 @@ fn forward(p: Progress, send: &[u8], receive: &mut [u8], words: &[u32], log: &mu
 }
 
 // What a run returns where no access follows.
-pub fn answered(p: Progress, end: End) -> Ran
+pub(crate) fn answered(p: Progress, end: End) -> Ran
     ensures { λ r. ⌜ Answered p end r ⌝ }
 {
     let parked = p.parked;
@@ -43,7 +43,7 @@ pub fn answered(p: Progress, end: End) -> Ran
 }
 
 // The whole run of a call: one access after the other, until the call is over, or the words or the log end.
-pub fn one_by_one(
+pub(crate) fn one_by_one(
     call: Parked,
     send: &[u8],
     receive: &mut [u8],

@@ -1,7 +1,7 @@
--- `turns::step::stepped` meets its contract.
+-- `blocking::step::stepped` meets its contract.
 use mathlib.Core.Path.{refl}
-use Rattle.turns.proofs.step.stepped.Statement.{statement}
-use Rattle.turns.proofs.step.stepped.Tie as tie
+use Rattle.blocking.proofs.step.stepped.Statement.{statement}
+use Rattle.blocking.proofs.step.stepped.Tie as tie
 
 returns : tie.Need-returns
 returns c = record { made = refl; told = c .turn .ensures }

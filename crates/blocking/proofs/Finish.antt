@@ -16,8 +16,8 @@ use Rattle.runs.proofs.OneAccess.{joined-none}
 use Rattle.stretches.specs.declared.Turn.the-variants.{Again, Over}
 use Rattle.stretches.specs.declared.Progress.{Progress}
 use Rattle.stretches.specs.Stretches.{Going, Carried}
-use Rattle.turns.specs.Steps.{Answered, Forward}
-use Rattle.turns.proofs.OneTurn.{no-more, carried-step}
+use Rattle.blocking.specs.Steps.{Answered, Forward}
+use Rattle.blocking.proofs.OneTurn.{no-more, carried-step}
 
 pub going-none : (s ws start : List ℕ) (p : Parked) (b : List ℕ) → Going s ws start p b start p b 0 0
 going-none s ws start p b = record { kept = refl; run = rw sub-zero (joined-none (runs s (length start / 2) p b ws)) }

@@ -19,7 +19,7 @@ use Rattle.stretches.specs.declared.Turn.{Turn}
 use Rattle.stretches.specs.declared.Turn.the-variants.{Again, Found, Over}
 use Rattle.stretches.specs.declared.Progress.{Progress}
 use Rattle.stretches.specs.Stretches.{Going, Carried}
-use Rattle.turns.specs.Steps.{Told, Ends, Turned, Forward}
+use Rattle.blocking.specs.Steps.{Told, Ends, Turned, Forward}
 
 two-set : (log : List ℕ) (o w : ℕ) → 2 ≤ length log → set (set log 0 o) 1 w ≡ o ∷ w ∷ drop 2 log
 two-set [] o w h = absurd (not-suc-le-zero h)

@@ -1,4 +1,4 @@
--- `turns::step::advance` meets its contract: the access that the code makes is the one that the definition wants.
+-- `blocking::step::advance` meets its contract: the access that the code makes is the one that the definition wants.
 use mathlib.Core.Path.{_≡_, refl, sym, ap, _∙_}
 use mathlib.Core.List.{List}
 use Prim.Native.Nat.{ℕ, suc, zero-le, _/_, _≤_}
@@ -7,11 +7,11 @@ use lib.ListN.{length, getD, drop}
 use Rattle.phases.specs.declared.End.the-variants.{OutOfWords, LogFull}
 use Rattle.parked.specs.Wants.{wants}
 use Rattle.runs.specs.Run.{next}
-use Rattle.turns.proofs.OneTurn.{turned-over, turned-step, room-none}
+use Rattle.blocking.proofs.OneTurn.{turned-over, turned-step, room-none}
 use Rattle.runs.proofs.OneAccess.{run-over, run-out, run-read, run-write, full-read, full-write}
 use borrow.Author.Needs.{needs}
-use Rattle.turns.proofs.step.advance.Statement.{statement}
-use Rattle.turns.proofs.step.advance.Tie as tie
+use Rattle.blocking.proofs.step.advance.Statement.{statement}
+use Rattle.blocking.proofs.step.advance.Tie as tie
 
 -- the access that the code computes is the definition's
 move : (c : tie.After-wants) → next (c .before .before .before .before .before .before .args .send .now) (c .before .before .before .before .before .before .args .call) ≡ c .wants .result

@@ -1,3 +1,0 @@
-pub mod Bounds
-pub mod Finish
-pub mod OneTurn
