@@ -1,6 +1,8 @@
 // Running a call: until it is over or parks.
 ghost use mathlib.Core.Path.{_≡_};
 ghost use Rattle.runs.specs.Run.{runs, outcome, called, resumed, room, Whole};
+use crate::turns::answered;
+use crate::turns::one_by_one;
 use answers::Answer;
 use courses::course::follow;
 use parked::End;
@@ -10,8 +12,6 @@ use parked::Phase;
 use runs::Ran;
 use slices::first_left;
 use stretches::Turn;
-use crate::turns::answered;
-use crate::turns::one_by_one;
 
 // The whole run of a call that is not wrong: as far as it follows plainly, and then whatever else comes.
 fn course(call: Parked, send: &[u8], receive: &mut [u8], words: &[u32], log: &mut [u32]) -> Ran

@@ -3,7 +3,7 @@ ghost use mathlib.Core.Bool.{true, false};
 ghost use lib.ListN.{length};
 ghost use Rattle.access.specs.Access.{Reported};
 ghost use Rattle.construction.specs.Drivers.{blockingConstruction};
-ghost use Rattle.addressed.specs.Addressed.{slaveAddressed};
+ghost use Rattle.addressing.specs.Addressed.{slaveAddressed};
 ghost use Rattle.never_wait.specs.NeverWait.{slaveSbc, interrupt, clearIrq};
 ghost use Rattle.flat.specs.Configured.{configOf};
 ghost use Rattle.flat.specs.Out.{Out};

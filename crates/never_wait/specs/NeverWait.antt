@@ -1,4 +1,4 @@
--- The calls that never wait, but `slave_addressed`, which is in `addressed`. They follow the non-blocking rule for 9 and 10: a refusal has no accesses. A missing word reads as 0.
+-- The calls that never wait, but `slave_addressed`, which is in `addressing`. They follow the non-blocking rule for 9 and 10: a refusal has no accesses. A missing word reads as 0.
 use Prim.Native.Nat.{ℕ}
 use mathlib.Core.Bool.{Bool}
 use mathlib.Core.List.{List, [], _∷_}

@@ -3,7 +3,7 @@ ghost use lib.ListN.{length};
 ghost use Rattle.access.specs.Access.{Reported};
 ghost use Rattle.never_wait.specs.NeverWait.{slaveSbc};
 use access::Report;
-pub use addressed::slave_addressed;
+pub use addressing::slave_addressed;
 use answers::Answer;
 use registers::cr1::Cr1;
 use settling::settle;

@@ -2,15 +2,33 @@
 ghost use mathlib.Core.Path.{_≡_};
 ghost use Rattle.answers.specs.Answers.{said};
 ghost use Rattle.wanted.specs.Found.{foundIn};
+ghost use Rattle.waits.specs.Waits.{wanted as wantedOf};
 ghost use Rattle.parked.specs.After.{wanted, whole, addrAnswer, stopAnswer, answer, afterFound};
 use crate::Parked;
 use crate::machine::addressed;
 use answers::Answer;
 use phases::End;
+use phases::Kind;
 use phases::Phase;
 use waits::after_found;
 use waits::compared;
-use waits::wanted;
+use wanted::Wanted;
+
+// The flag that is waited for: TC where a `write_read` has sent its bytes.
+fn wanted(kind: Kind, more: bool) -> Wanted
+    ensures { λ r. ⌜ r ≡ wantedOf kind more ⌝ }
+{
+    if kind.incoming() {
+        return Wanted::Rxne;
+    }
+    if more {
+        return Wanted::Txis;
+    }
+    if kind.restarts() {
+        return Wanted::Tc;
+    }
+    Wanted::Txis
+}
 
 impl Parked {
     fn whole(self) -> bool

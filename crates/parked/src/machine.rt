@@ -2,7 +2,7 @@
 ghost use mathlib.Core.Path.{_≡_};
 ghost use mathlib.Core.Bool.{cond};
 ghost use Rattle.fields.specs.Words.{sadd8};
-ghost use Rattle.fields.specs.Layout.{ADDR, _has_};
+ghost use Rattle.fields.specs.Layout.{TXIS, ADDR, _has_};
 ghost use Rattle.flags.specs.Flags.{addressCode, directionOf};
 ghost use Rattle.phases.specs.Kinds.{setupWord, incoming};
 ghost use Rattle.parked.specs.Wants.{span, more, wantsByte, wants};
@@ -20,7 +20,6 @@ use phases::Kind;
 use phases::Phase;
 use phases::Role;
 use waits::flush::pending_txe;
-use waits::flush::pending_txis;
 
 // The next access.
 impl Parked {
@@ -89,6 +88,16 @@ impl Parked {
             Phase::Ended(end) => Next::Over(end),
         }
     }
+}
+
+// `flush_txdr`: a pending TXIS is answered with dummy data.
+fn pending_txis(isr: u32) -> Phase
+    ensures { λ r. ⌜ r ≡ cond (isr has TXIS) Phase.FlushDummy Phase.FlushTxe ⌝ }
+{
+    if Isr::TXIS.is_set(isr) {
+        return Phase::FlushDummy;
+    }
+    Phase::FlushTxe
 }
 
 // Reads ISR until ADDR is set.

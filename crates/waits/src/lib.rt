@@ -1,30 +1,13 @@
-// `busy_wait`: the flag that a call waits for, and the phase that each flag leads to.
+// `busy_wait`: the length that a final flag compares, and the phase that each flag leads to.
 // A wait is told the kind of the call, and whether a byte is left to send or a place to fill (`more`).
 ghost use mathlib.Core.Path.{_≡_};
-ghost use Rattle.waits.specs.Waits.{wanted, compared, found, afterFound};
+ghost use Rattle.waits.specs.Waits.{compared, found, afterFound};
 use phases::End;
 use phases::Kind;
 use phases::Phase;
 use wanted::Found;
-use wanted::Wanted;
 
 pub mod flush;
-
-// The flag that is waited for: TC where a `write_read` has sent its bytes.
-pub fn wanted(kind: Kind, more: bool) -> Wanted
-    ensures { λ r. ⌜ r ≡ wanted kind more ⌝ }
-{
-    if kind.incoming() {
-        return Wanted::Rxne;
-    }
-    if more {
-        return Wanted::Txis;
-    }
-    if kind.restarts() {
-        return Wanted::Tc;
-    }
-    Wanted::Txis
-}
 
 // The length that a final flag compares with the count, of a call that counts to `span`. The wait for TC has a dummy.
 pub fn compared(kind: Kind, more: bool, span: usize) -> usize

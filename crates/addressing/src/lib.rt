@@ -1,7 +1,7 @@
 // The blocking `slave_addressed`, which never waits. It is refused whole: no access is made where a word or room is missing.
 ghost use lib.ListN.{length};
 ghost use Rattle.access.specs.Access.{Reported};
-ghost use Rattle.addressed.specs.Addressed.{slaveAddressed};
+ghost use Rattle.addressing.specs.Addressed.{slaveAddressed};
 use access::Report;
 use answers::Answer;
 use flags::Isr;

@@ -1,8 +1,8 @@
--- `addressed::slave_addressed` meets its contract.
+-- `addressing::slave_addressed` meets its contract.
 use mathlib.Core.Path.{_≡_, sym, _∙_}
 use borrow.Author.Needs.{needs}
-use Rattle.addressed.proofs.slave_addressed.Statement.{statement}
-use Rattle.addressed.proofs.slave_addressed.Tie as tie
+use Rattle.addressing.proofs.slave_addressed.Statement.{statement}
+use Rattle.addressing.proofs.slave_addressed.Tie as tie
 
 returns : tie.Need-returns
 returns c = rw (← c .before .before .before .before .before .before .before .before .before .before .word-at .ensures, ← c .before .before .before .before .before .before .before .word-at2 .ensures, sym (c .before .before .before .before .before .before .before .before .before .is-set .ensures) ∙ c .before .before .before .before .before .before .before .before .if1 .taken) (rw (c .before .before .before .before .before .before .address-code .ensures, c .before .before .before .before .before .direction .ensures) at (c .before .before .settle .ensures))

@@ -1,7 +1,7 @@
--- `waits::wanted` meets its contract.
+-- `parked::busy_wait::wanted` meets its contract.
 use mathlib.Core.Path.{_≡_, sym, _∙_}
-use Rattle.waits.proofs.wanted.Statement.{statement}
-use Rattle.waits.proofs.wanted.Tie as tie
+use Rattle.parked.proofs.busy_wait.wanted.Statement.{statement}
+use Rattle.parked.proofs.busy_wait.wanted.Tie as tie
 
 returns : tie.Need-returns
 returns c = rw (sym (c .before .incoming .ensures) ∙ c .if1 .taken)

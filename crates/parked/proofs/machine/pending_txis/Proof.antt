@@ -1,7 +1,7 @@
--- `waits::flush::pending_txis` meets its contract.
+-- `parked::machine::pending_txis` meets its contract.
 use mathlib.Core.Path.{_≡_, sym, _∙_}
-use Rattle.waits.proofs.flush.pending_txis.Statement.{statement}
-use Rattle.waits.proofs.flush.pending_txis.Tie as tie
+use Rattle.parked.proofs.machine.pending_txis.Statement.{statement}
+use Rattle.parked.proofs.machine.pending_txis.Tie as tie
 
 returns : tie.Need-returns
 returns c = rw (sym (c .before .is-set .ensures) ∙ c .if1 .taken)
