@@ -1,5 +1,4 @@
 // A short line, or the start of one. Each number comes after a space; hex digits are capitals.
-ghost use Prim.Native.Nat.{_<_};
 
 // The longest one is that of a link, but for its bytes: 87.
 pub struct Line {
@@ -62,10 +61,11 @@ impl Line {
         line
     }
 
-    // The lowest digits of a number, from the one of this weight on.
-    pub fn number(self, n: u64, base: u64, first: u64) -> Line
-        requires { ⌜ 1 < base ⌝ }
-    {
+    // The lowest digits of a number, from the one of this weight on; none where a base has no digits.
+    pub fn number(self, n: u64, base: u64, first: u64) -> Line {
+        if base < 2 {
+            return self;
+        }
         let mut line = self.byte(b' ');
         let mut weight = if first == ALL { first_weight(n) } else { first };
         while 0 < weight {
