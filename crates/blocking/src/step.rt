@@ -5,10 +5,10 @@ use parked::End;
 use parked::Next;
 use parked::Parked;
 use parked::Phase;
-use polls::keep_byte;
 use slices::byte_at;
 use stretches::Progress;
 use stretches::Turn;
+use stretches::polls::keep_byte;
 
 fn turn(call: Parked) -> Turn
     ensures { λ r. ⌜ Told r call ⌝ }

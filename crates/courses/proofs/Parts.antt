@@ -10,9 +10,9 @@ use Rattle.fields.specs.Words.{started, sadd8, cleared}
 use Rattle.phases.specs.declared.Kind.{Kind}
 use Rattle.parked.specs.declared.Parked.{Parked}
 use Rattle.stretches.specs.declared.Moved.{Moved}
-use Rattle.polls.specs.Polls.{Put}
+use Rattle.stretches.specs.Polls.{Put}
 use Rattle.stretches.specs.Stretches.{Carried, waiting}
-use Rattle.polls.proofs.Puts.{put-fits, put-logs, put-not}
+use Rattle.stretches.proofs.Puts.{put-fits, put-logs, put-not}
 use Rattle.courses.specs.Courses.{Opens, Asked, Quiet, Stopped, Restarted, fresh}
 use Rattle.courses.proofs.Ends.{opens, never}
 

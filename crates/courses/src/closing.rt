@@ -15,10 +15,10 @@ use parked::End;
 use parked::Kind;
 use parked::Parked;
 use parked::Phase;
-use polls::put_at;
 use stretches::Moved;
 use stretches::Progress;
 use stretches::Turn;
+use stretches::polls::put_at;
 use wanted::Found;
 use wanted::Wanted;
 

@@ -15,10 +15,10 @@ use cr2::Cr2;
 use flags::Isr;
 use parked::Kind;
 use parked::Parked;
-use polls::put_at;
 use stretches::Moved;
 use stretches::Progress;
 use stretches::Turn;
+use stretches::polls::put_at;
 use stretches::stretch::receive_bytes;
 use stretches::stretch::send_bytes;
 

@@ -7,7 +7,7 @@ ghost use lib.ListN.{length};
 ghost use Rattle.fields.specs.Layout.{CR2, ISR, RXDR, offset};
 ghost use Rattle.fields.specs.Words.{started, flushed, sadd8};
 ghost use Rattle.phases.specs.Kinds.{incoming};
-ghost use Rattle.polls.specs.Polls.{Put};
+ghost use Rattle.stretches.specs.Polls.{Put};
 ghost use Rattle.courses.specs.Courses.{Opens};
 use crate::Opened;
 use cr2::Cr2;
@@ -17,8 +17,8 @@ use parked::Kind;
 use parked::Opening;
 use parked::Parked;
 use parked::Phase;
-use polls::put_at;
 use stretches::Moved;
+use stretches::polls::put_at;
 
 // START is clear, and a `modify` of CR2.
 fn open_write(address: u8, send: usize, first: u32, cr2: u32, log: &mut [u32]) -> bool

@@ -9,11 +9,11 @@ ghost use Rattle.nonblocking.specs.Model.{model};
 ghost use Rattle.flat.specs.Configured.{configOf};
 ghost use Rattle.flat.specs.Out.{Out};
 use crate::fresh;
+use crate::hot::put_checked;
+use crate::hot::put_errors;
+use crate::hot::put_offered;
+use crate::hot::put_started;
 use flat::out::put;
-use flat::out::put_checked;
-use flat::out::put_errors;
-use flat::out::put_offered;
-use flat::out::put_started;
 use nonblocking::Link;
 
 #[no_mangle]

@@ -1,5 +1,4 @@
 // The blocking calls that wait.
-use crate::line::least;
 use blocking::Ran;
 use blocking::master::read;
 use blocking::master::write;
@@ -10,6 +9,7 @@ use blocking::slave::slave_wait_addressed;
 use blocking::slave::slave_write;
 use numbered::call::take_up;
 use script::calls::*;
+use script::given::least;
 
 // A call begun, or the parked one resumed, with the slices that it has from now on: of `recv` so many places.
 pub(crate) fn run_call(

@@ -1,5 +1,4 @@
 // One line of a script.
-ghost use Prim.Native.Nat.{_≤_};
 use crate::Kept;
 use crate::waiting::play_waiting;
 use playing::outcome::Log;
@@ -8,31 +7,14 @@ use playing::outcome::play;
 use print::buffer::Buffer;
 use script::Words;
 use script::calls::*;
+use script::given::least;
+use script::given::places;
+use script::given::words_of;
 use script::parse::parse;
-use script::slots::*;
+use script::slots::Slots;
 use text::Bytes;
 use text::Text;
 use text::tokens::part;
-
-pub(crate) fn least(a: usize, b: usize) -> usize
-    ensures { λ r. ⌜ r ≤ b ⌝ }
-{
-    if a < b { a } else { b }
-}
-
-// The words that the line gives.
-fn words_of<'a>(words: &'a [u32], slots: &Slots) -> &'a [u32] {
-    let count = least(number(slots, WORDS) as usize, words.len());
-    &words[0..count]
-}
-
-// The log's places: as given, or so many that it never fills.
-fn places(slots: &Slots) -> usize {
-    if given(slots, LOG) == 1 {
-        return number(slots, LOG) as usize;
-    }
-    number(slots, WORDS) as usize % 0x1_0000 * 4 + 6
-}
 
 // A line that is parsed: its call over the words and the places of the log that it gives.
 fn play_call(

@@ -5,25 +5,10 @@ use flat::leave;
 use playing::Played;
 use runs::Ran;
 use script::calls::*;
-use script::parse::bytes_of;
+use script::given::length;
 use script::slots::*;
 use text::Bytes;
 use text::tokens::part;
-
-// How long a slice is from now on. One that the line gives takes the place of the kept one; without it a begun call has none.
-fn length(
-    call: Call,
-    text: &[u8],
-    slots: &Slots,
-    slot: usize,
-    bytes: &mut Bytes,
-    kept: usize,
-) -> usize {
-    if given(slots, slot) == 1 {
-        return bytes_of(text, slots, slot, bytes);
-    }
-    if call == BL_RESUME { kept } else { 0 }
-}
 
 // What is kept after a run, which leaves the link.
 fn left(kept: Kept, ran: Ran, sent: usize, received: usize) -> Kept {

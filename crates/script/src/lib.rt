@@ -1,5 +1,6 @@
 // Scripts: the call that a line is, its numbers and its words.
 pub mod calls;
+pub mod given;
 mod items;
 pub mod parse;
 pub mod slots;

@@ -1,13 +1,14 @@
 // ADDR: addressed by a master.
 ghost use mathlib.Core.Path.{_≡_};
 ghost use Prim.Native.Nat.{ℕ};
-ghost use mathlib.Core.Bool.{true};
+ghost use mathlib.Core.Bool.{true, cond};
 ghost use mathlib.Core.List.{List, [], _∷_};
 ghost use lib.ListN.{length as size, getD};
-ghost use Rattle.fields.specs.Layout.{ADDR};
+ghost use Rattle.fields.specs.Layout.{ADDR, DIR, _has_};
 ghost use Rattle.fields.specs.Words.{sized, cleared};
 ghost use Rattle.access.specs.Access.{settle, Reported};
-ghost use Rattle.answers.specs.Answers.{said};
+ghost use Rattle.answers.specs.Answers.{says};
+ghost use Rattle.flags.specs.Flags.{directionOf, addressCode};
 ghost use Rattle.ending.specs.Link.{linkAt};
 ghost use Rattle.ending.specs.Arms.{Arm};
 use access::Report;
@@ -31,36 +32,32 @@ pub fn on_addr(
     ensures { λ r. ⌜ ((e h : ℕ) (d : List ℕ) → Arm Flag.Addr (now (words .entry)) (linkAt (now (address .entry)) (now (watchdog .entry)) (now (index .entry)) (now (length .entry)) e h d) (linkAt (now (address .exit)) (now (watchdog .exit)) (now (index .exit)) (now (length .exit)) e h d) r (now (log .entry)) (now (log .exit))) ⌝ }
 {
     let isr = word_at(words, 0);
-    let code = Isr::address_code(isr);
-    let answer = Answer::Addressed {
-        address: code,
-        direction: Isr::direction(isr),
-    };
-    if Isr::DIR.is_set(isr) {
-        let entries = [Isr::READ, isr];
-        let report = settle(answer, 1, &entries, words, log);
-        if report.logged == 0 {
-            return report;
-        }
-        *address = code;
-        *watchdog = 10;
-        return report;
-    }
-    let report = opened(answer, isr, words, log);
+    let report = told(isr, words, log);
     if report.logged == 0 {
         return report;
     }
-    *address = code;
+    *address = Isr::address_code(isr);
     *watchdog = 10;
+    if Isr::DIR.is_set(isr) {
+        return report;
+    }
     *index = 0;
     *length = 255;
     report
 }
 
-// The accesses that open the buffer.
-fn opened(answer: Answer, isr: u32, words: &[u32], log: &mut [u32]) -> Report
-    ensures { λ r. ⌜ Reported (settle (said answer) 2 (0x18 ∷ isr ∷ 0x04 ∷ getD (now (words .entry)) 1 0 ∷ 0x104 ∷ sized (getD (now (words .entry)) 1 0) 255 true ∷ 0x11C ∷ cleared ADDR ∷ []) (size (now (words .entry))) (size (now (log .entry)))) (now (log .entry)) r (now (log .exit)) ⌝ }
+// Where the master reads, ISR alone is read; where it writes, the accesses that open the buffer follow.
+fn told(isr: u32, words: &[u32], log: &mut [u32]) -> Report
+    ensures { λ r. ⌜ Reported (settle (says 0x41 (addressCode isr ∷ directionOf isr ∷ [])) (cond (isr has DIR) 1 2) (0x18 ∷ isr ∷ cond (isr has DIR) [] (0x04 ∷ getD (now (words .entry)) 1 0 ∷ 0x104 ∷ sized (getD (now (words .entry)) 1 0) 255 true ∷ 0x11C ∷ cleared ADDR ∷ [])) (size (now (words .entry))) (size (now (log .entry)))) (now (log .entry)) r (now (log .exit)) ⌝ }
 {
+    let answer = Answer::Addressed {
+        address: Isr::address_code(isr),
+        direction: Isr::direction(isr),
+    };
+    if Isr::DIR.is_set(isr) {
+        let entries = [Isr::READ, isr];
+        return settle(answer, 1, &entries, words, log);
+    }
     let cr2 = word_at(words, 1);
     let entries = [
         Isr::READ,

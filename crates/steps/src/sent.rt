@@ -1,7 +1,11 @@
 // TXIS and STOPF: a byte sent, and the end of a transfer.
 ghost use mathlib.Core.Path.{_≡_};
 ghost use Prim.Native.Nat.{ℕ};
-ghost use mathlib.Core.List.{List};
+ghost use mathlib.Core.Bool.{cond};
+ghost use mathlib.Core.List.{List, [], _∷_};
+ghost use lib.Dec.{eqb};
+ghost use Rattle.answers.specs.Answers.{said, says};
+ghost use Rattle.flags.specs.Flags.{directionOf};
 ghost use Rattle.ending.specs.Link.{linkAt};
 ghost use Rattle.ending.specs.Arms.{Arm};
 use crate::answered;
@@ -51,27 +55,24 @@ pub fn on_stopf(
 ) -> Report
     ensures { λ r. ⌜ ((n h : ℕ) (d : List ℕ) → Arm Flag.Stopf (now (words .entry)) (linkAt address (now (watchdog .entry)) index n (now (errors .entry)) h d) (linkAt address (now (watchdog .exit)) index n (now (errors .exit)) h d) r (now (log .entry)) (now (log .exit))) ⌝ }
 {
-    if index == 0 {
-        let report = answered(
-            Answer::Nack,
-            1,
-            Icr::WRITE,
-            Icr::cleared(Isr::STOPF),
-            words,
-            log,
-        );
-        if report.logged == 0 {
-            return report;
-        }
-        *watchdog = 0;
-        *errors = one_more(*errors);
-        return report;
-    }
-    let answer = shown(address, word_at(words, 0), index);
+    let answer = ended(address, word_at(words, 0), index);
     let report = answered(answer, 1, Icr::WRITE, Icr::cleared(Isr::STOPF), words, log);
     if report.logged == 0 {
         return report;
     }
     *watchdog = 0;
+    if index == 0 {
+        *errors = one_more(*errors);
+        return report;
+    }
     report
+}
+
+fn ended(address: u16, isr: u32, index: usize) -> Answer
+    ensures { λ r. ⌜ said r ≡ cond (eqb index 0) (says 2 []) (says 0x44 (address ∷ directionOf isr ∷ index ∷ [])) ⌝ }
+{
+    if index == 0 {
+        return Answer::Nack;
+    }
+    shown(address, isr, index)
 }

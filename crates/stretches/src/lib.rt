@@ -2,6 +2,7 @@
 use parked::End;
 use parked::Parked;
 
+pub mod polls;
 pub mod stretch;
 
 // Whether the wait goes on, the wanted flag is found, or no access follows.

@@ -4,13 +4,13 @@ ghost use mathlib.Core.Path.{_≡_};
 ghost use mathlib.Core.Bool.{true};
 ghost use Rattle.stretches.specs.Stretches.{Sends, Receives};
 use crate::Moved;
+use crate::polls::Brought;
+use crate::polls::polled;
 use data_registers::Rxdr;
 use data_registers::Txdr;
 use flags::Isr;
 use one_byte::byte_in;
 use one_byte::byte_out;
-use polls::Brought;
-use polls::polled;
 use wanted::Wanted;
 
 // Whether a byte and a word are left.

@@ -4,7 +4,7 @@ use native.Mathlib.Omega.{arith}
 use lib.ListN.{length}
 use Prim.Native.Nat.{_-_, _<_}
 use Rattle.phases.specs.Kinds.{incoming}
-use Rattle.polls.proofs.Puts.{put-fits, put-logs, put-not}
+use Rattle.stretches.proofs.Puts.{put-fits, put-logs, put-not}
 use Rattle.courses.proofs.Blocks.{resumes}
 use Rattle.courses.proofs.Ends.{opens, shut}
 use borrow.Author.Needs.{needs}

@@ -3,7 +3,7 @@ ghost use mathlib.Core.Path.{_≡_};
 ghost use mathlib.Core.Bool.{cond};
 ghost use lib.ListN.{set};
 ghost use Rattle.fields.specs.Words.{received};
-ghost use Rattle.polls.specs.Polls.{Put, Polled};
+ghost use Rattle.stretches.specs.Polls.{Put, Polled};
 use data_registers::Rxdr;
 use flags::Isr;
 use wanted::Found;

@@ -1,4 +1,4 @@
--- `polls::put_at` meets its contract: after i turns the first i entries stand in the log.
+-- `stretches::polls::put_at` meets its contract: after i turns the first i entries stand in the log.
 use mathlib.Core.Path.{_≡_, refl, sym}
 use Prim.Native.Nat.{_≤_, _-_, _+_}
 use native.Mathlib.Omega.{arith}
@@ -7,9 +7,9 @@ use lib.ListN.{length, take, length-set}
 use lib.Seq.{sets, take-length}
 use borrow.Author.Needs.{needs}
 use borrow.Author.Tests.{le-leb, lt-leb}
-use Rattle.polls.proofs.Puts.{sets-suc}
-use Rattle.polls.proofs.put_at.Statement.{statement}
-use Rattle.polls.proofs.put_at.Tie as tie
+use Rattle.stretches.proofs.Puts.{sets-suc}
+use Rattle.stretches.proofs.polls.put_at.Statement.{statement}
+use Rattle.stretches.proofs.polls.put_at.Tie as tie
 
 abbrev Inv-loop : tie.InvT-loop
 Inv-loop log₀ at entries i₀ log i = (i ≤ length entries) × (log ≡ sets log₀ at (take i entries)) × (length log ≡ length log₀) × (at + length entries ≤ length log₀)

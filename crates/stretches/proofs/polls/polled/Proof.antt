@@ -1,9 +1,9 @@
--- `polls::polled` meets its contract.
+-- `stretches::polls::polled` meets its contract.
 use mathlib.Core.Path.{sym, _∙_}
-use Rattle.polls.proofs.Puts.{put-fits, put-logs, put-not}
+use Rattle.stretches.proofs.Puts.{put-fits, put-logs, put-not}
 use borrow.Author.Needs.{needs}
-use Rattle.polls.proofs.polled.Statement.{statement}
-use Rattle.polls.proofs.polled.Tie as tie
+use Rattle.stretches.proofs.polls.polled.Statement.{statement}
+use Rattle.stretches.proofs.polls.polled.Tie as tie
 
 returns : tie.Need-returns
 returns c = (c .before .before .before .before .before .before .if1 .taken, put-fits (c .before .before .before .put-at .ensures) (c .if2 .taken), put-logs (c .before .before .before .put-at .ensures) (c .if2 .taken))

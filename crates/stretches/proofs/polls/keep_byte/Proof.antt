@@ -1,9 +1,9 @@
--- `polls::keep_byte` meets its contract.
+-- `stretches::polls::keep_byte` meets its contract.
 use mathlib.Core.Path.{_≡_, sym, _∙_}
 use lib.Seq.{set-out}
 use borrow.Author.Needs.{needs}
-use Rattle.polls.proofs.keep_byte.Statement.{statement}
-use Rattle.polls.proofs.keep_byte.Tie as tie
+use Rattle.stretches.proofs.polls.keep_byte.Statement.{statement}
+use Rattle.stretches.proofs.polls.keep_byte.Tie as tie
 
 returns : tie.Need-returns
 returns c = rw (c .before .before .if1 .taken, c .received .ensures)

@@ -10,8 +10,8 @@ use Rattle.fields.specs.Layout.{ISR, offset}
 use Rattle.wanted.specs.declared.Wanted.{Wanted}
 use Rattle.wanted.specs.declared.Found.the-variants.{Nothing as NoFlag}
 use Rattle.wanted.specs.Found.{foundIn}
-use Rattle.polls.specs.declared.Brought.{Brought}
-use Rattle.polls.specs.declared.Brought.the-variants.{Byte, Nothing, Else}
+use Rattle.stretches.specs.declared.polls.Brought.{Brought}
+use Rattle.stretches.specs.declared.polls.Brought.the-variants.{Byte, Nothing, Else}
 
 -- the log after entries were to be written from a place on: all of them, or none where they do not fit
 pub record Put (entries before : List ℕ) (at : ℕ) (fits : Bool) (after : List ℕ) : Type 0 where

@@ -8,7 +8,7 @@ use native.Mathlib.Nat.{not-suc-le-zero, le-of-suc-le-suc, add-zero}
 use native.Mathlib.Omega.{arith}
 use lib.ListN.{length, getD, take, set}
 use lib.Seq.{sets}
-use Rattle.polls.specs.Polls.{Put}
+use Rattle.stretches.specs.Polls.{Put}
 
 pub sets-suc : (xs log : List ℕ) (at i : ℕ) → i < length xs → sets log at (take (suc i) xs) ≡ set (sets log at (take i xs)) (at + i) (getD xs i 0)
 sets-suc [] log at i h = absurd (not-suc-le-zero h)
