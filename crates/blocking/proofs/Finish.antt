@@ -4,7 +4,7 @@ use mathlib.Core.List.{List, [], _∷_, _++_, append-nil}
 use Prim.Native.Nat.{ℕ, zero, suc, _+_, _-_, _/_, _≤_}
 use native.Mathlib.Nat.{sub-zero, add-zero}
 use native.Mathlib.Omega.{arith}
-use lib.ListN.{length, take, drop, length-append, take-append-drop}
+use lib.ListN.{length, take, drop, take-append-drop}
 use lib.Seq.{length-take-le}
 use Rattle.access.specs.Access.{over}
 use Rattle.phases.specs.declared.End.{End}
@@ -13,10 +13,10 @@ use Rattle.parked.specs.After.{answer}
 use Rattle.runs.specs.declared.Ran.{Ran}
 use Rattle.runs.specs.Run.{Outcome, stopped, joined, runs, Whole}
 use Rattle.runs.proofs.OneAccess.{joined-none}
-use Rattle.stretches.specs.declared.Turn.the-variants.{Again, Over}
+use Rattle.stretches.specs.declared.Turn.the-variants.{Over}
 use Rattle.stretches.specs.declared.Progress.{Progress}
 use Rattle.stretches.specs.Stretches.{Going, Carried}
-use Rattle.blocking.specs.Steps.{Answered, Forward}
+use Rattle.blocking.specs.Steps.{Answered, Forward, Rest}
 use Rattle.blocking.proofs.OneTurn.{no-more, carried-step}
 
 pub going-none : (s ws start : List ℕ) (p : Parked) (b : List ℕ) → Going s ws start p b start p b 0 0
@@ -46,18 +46,6 @@ from-start {s} {ws} {start} {p₀} {b₀} {log} {p} {b} {t} {g} q {r} {log′} {
       buffer = w .buffer;
     })
 
--- the run of a part is the rest of the run over the whole log
-pub rest-whole : {q : Outcome} (log : List ℕ) (t g : ℕ) {r : Ran} {ys b′ : List ℕ} → g ≤ length log → Whole q (drop g log) r ys b′
-    → Whole (joined t (take g log) q) log (record { answer = r .answer; parked = r .parked; taken = t + r .taken; logged = g + r .logged }) (take g log ++ ys) b′
-rest-whole {q} log t g h w = record {
-  answer = w .answer;
-  parked = w .parked;
-  taken = ap (λ (m : ℕ). t + m) (w .taken);
-  logged = ap (λ (m : ℕ). g + m) (w .logged) ∙ ap (λ (m : ℕ). m + length (q .numbers)) (sym (length-take-le g log h)) ∙ sym (length-append (take g log) (q .numbers));
-  entries = ap (λ (l : List ℕ). take g log ++ l) (w .entries) ∙ over-front g log log (q .numbers) refl;
-  buffer = w .buffer;
-}
-
 -- the run is over: its whole outcome
 pub finish : (s ws start : List ℕ) (p₀ : Parked) (b₀ log : List ℕ) (p : Progress) (b : List ℕ) (a : End) (r : Ran) → p .logged ≤ length log → length log ≡ length start
     → Going s ws start p₀ b₀ log (p .parked) b (p .taken) (p .logged) → runs s ((length log - p .logged) / 2) (p .parked) b (drop (p .taken) ws) ≡ stopped (answer a (p .parked)) (p .parked) b
@@ -72,10 +60,10 @@ finish s ws start p₀ b₀ log p b a r hg hl h e k =
       buffer = refl;
     })
 
--- the whole run, where it ends with a turn that says that it is over
-pub ended : {s ws log₀ b₀ : List ℕ} {p₀ : Parked} {log b log′ b′ : List ℕ} {p r : Progress} {q : Ran}
-    → Carried s ws log₀ b₀ (record { turn = Again; parked = p₀; taken = 0; logged = 0 }) log b p → Forward s ws log b p r log′ b′ → length log′ ≡ length log → length b′ ≡ length b
-    → (a : End) → r .turn ≡ Over a → Answered r a q → Whole (runs s (length log₀ / 2) p₀ b₀ ws) log₀ q log′ b′
-ended {s} {ws} {log₀} {b₀} {p₀} {log} {b} {log′} {b′} {p} {r} {q} c f e k a h o =
+-- the rest of a run, where it ends with a turn that says that it is over
+pub ended : {s ws log₀ b₀ log b log′ b′ : List ℕ} {p₀ p r : Progress} {q : Ran} → Carried s ws log₀ b₀ p₀ log b p → Forward s ws log b p r log′ b′ → length log′ ≡ length log → length b′ ≡ length b
+    → (a : End) → r .turn ≡ Over a → Answered r a q → Rest s ws log₀ b₀ p₀ q log′ b′
+ended {s} {ws} {log₀} {b₀} {log} {b} {log′} {b′} {p₀} {p} {r} {q} c f e k a h o =
+    λ start p₁ b₁ same g.
     let d = carried-step c f e k in
-    finish s ws log₀ p₀ b₀ log′ r b′ a q (d .room) (d .long) (d .going log₀ p₀ b₀ refl (going-none s ws log₀ p₀ b₀)) (rw e (no-more f a h)) o
+    finish s ws start p₁ b₁ log′ r b′ a q (d .room) (d .long ∙ sym same) (d .going start p₁ b₁ same g) (rw e (no-more f a h)) o

@@ -1,12 +1,10 @@
 -- The whole outcome of a call: the parts of its run joined, a call that is begun, and one that has no buffer.
-use mathlib.Core.Path.{_≡_, refl, sym, ap, _∙_, subst}
+use mathlib.Core.Path.{_≡_, refl, sym, subst}
 use mathlib.Core.Bool.{true, false}
 use mathlib.Core.List.{List, [], _∷_}
-use Prim.Native.Nat.{ℕ, _+_, _-_, _/_, _≤_}
+use Prim.Native.Nat.{ℕ, _/_}
 use native.Mathlib.Omega.{arith}
-use lib.ListN.{length, take, drop, length-drop}
-use borrow.Rule.Slice.PartAt.{part-to-end}
-use borrow.Rule.Slice.PartMut.{putMid}
+use lib.ListN.{length}
 use Rattle.answers.specs.Answers.{says}
 use Rattle.phases.specs.declared.End.{End}
 use Rattle.phases.specs.declared.Kind.{Kind}
@@ -19,30 +17,12 @@ use Rattle.stretches.specs.declared.Turn.{Turn}
 use Rattle.stretches.specs.declared.Turn.the-variants.{Over}
 use Rattle.stretches.specs.declared.Progress.{Progress}
 use Rattle.courses.specs.Courses.{Stands, Follows, fresh}
-use Rattle.blocking.specs.Steps.{Answered}
-use Rattle.blocking.proofs.OneTurn.{put-rest}
-use Rattle.blocking.proofs.Bounds.{taken-fits, logged-fits, part-fits}
-use Rattle.blocking.proofs.Finish.{going-none, from-start, rest-whole, finish}
+use Rattle.blocking.specs.Steps.{Answered, Rest}
+use Rattle.blocking.proofs.Finish.{going-none, finish}
 
--- the whole run: what follows plainly, and then the run over the parts that are left, as the borrow checker has them
-module _ {s ws log b : List ℕ} {p : Parked} {log₁ b₁ : List ℕ} {q : Progress} {r : Ran} {ys b′ : List ℕ} (k : Follows s ws log b (fresh p) log₁ b₁ q)
-    (w : Whole (runs s (length (take (length log₁ - q .logged) (drop (q .logged) log₁)) / 2) (q .parked) b₁ (take (length ws - q .taken) (drop (q .taken) ws))) (take (length log₁ - q .logged) (drop (q .logged) log₁)) r ys b′) where
-  pub words-fit : q .taken + r .taken ≤ length ws
-  words-fit = part-fits (r .taken) (q .taken) ws (k .carried .words) (taken-fits s (q .parked) b₁ _ w)
-
-  pub log-fits : q .logged + r .logged ≤ length log₁
-  log-fits = part-fits (r .logged) (q .logged) log₁ (k .carried .room) (logged-fits s (q .parked) b₁ _ w)
-
-  left : Whole (runs s (length (drop (q .logged) log₁) / 2) (q .parked) b₁ (drop (q .taken) ws)) (drop (q .logged) log₁) r ys b′
-  left =
-      subst (λ (x : List ℕ). Whole (runs s (length x / 2) (q .parked) b₁ (drop (q .taken) ws)) x r ys b′) (part-to-end log₁ (q .logged))
-      (subst (λ (x : List ℕ). Whole (runs s (length (take (length log₁ - q .logged) (drop (q .logged) log₁)) / 2) (q .parked) b₁ x) (take (length log₁ - q .logged) (drop (q .logged) log₁)) r ys b′) (part-to-end ws (q .taken)) w)
-
-  pub whole-run : Whole (runs s (length log / 2) p b ws) log (record { answer = r .answer; parked = r .parked; taken = q .taken + r .taken; logged = q .logged + r .logged }) (putMid (q .logged) (length log₁ - q .logged) log₁ ys) b′
-  whole-run =
-      rw (put-rest (q .logged) log₁ ys (k .carried .room))
-      (from-start (runs s (length (drop (q .logged) log₁) / 2) (q .parked) b₁ (drop (q .taken) ws)) (k .carried .long) (k .carried .going log p b refl (going-none s ws log p b))
-      (ap (λ (n : ℕ). runs s (n / 2) (q .parked) b₁ (drop (q .taken) ws)) (sym (length-drop (q .logged) log₁))) (rest-whole log₁ (q .taken) (q .logged) (k .carried .room) left))
+-- the whole run: what follows plainly, and then its rest
+pub whole-run : {s ws log b : List ℕ} {p : Parked} {log₁ b₁ : List ℕ} {q : Progress} {r : Ran} {log′ b′ : List ℕ} → Follows s ws log b (fresh p) log₁ b₁ q → Rest s ws log₁ b₁ q r log′ b′ → Whole (runs s (length log / 2) p b ws) log r log′ b′
+whole-run {s} {ws} {log} {b} {p} k rest = rest log p b (sym (k .carried .long)) (k .carried .going log p b refl (going-none s ws log p b))
 
 -- the same, where what follows plainly ends the call
 pub whole-over : {s ws log b : List ℕ} {p : Parked} {log′ b′ : List ℕ} {q : Progress} {r : Ran} → Follows s ws log b (fresh p) log′ b′ q → (e : End) → q .turn ≡ Over e → Answered q e r

@@ -13,7 +13,7 @@ use Rattle.stretches.specs.declared.Progress.{Progress}
 use Rattle.runs.specs.declared.Ran.{Ran}
 use Rattle.parked.specs.After.{answer}
 use Rattle.stretches.specs.Stretches.{Going}
-use Rattle.runs.specs.Run.{Outcome, stopped, joined, runs}
+use Rattle.runs.specs.Run.{Outcome, stopped, joined, runs, room, Whole}
 
 -- what is returned where no access follows
 pub record Answered (p : Progress) (e : End) (r : Ran) : Type 0 where
@@ -55,3 +55,8 @@ pub record Forward (s ws log b : List ℕ) (p r : Progress) (log′ b′ : List 
   pub going : (start : List ℕ) (p₀ : Parked) (b₀ : List ℕ) → length start ≡ length log
       → Going s ws start p₀ b₀ log (p .parked) b (p .taken) (p .logged) → Going s ws start p₀ b₀ log′ (r .parked) b′ (r .taken) (r .logged)
   pub ends : Ends (r .turn) (p .logged) (r .logged) (runs s ((length log - r .logged) / 2) (r .parked) b′ (drop (r .taken) ws)) (r .parked) b′
+
+-- the rest of a run that is so far, wherever it started
+abbrev pub Rest : List ℕ → List ℕ → List ℕ → List ℕ → Progress → Ran → List ℕ → List ℕ → Type 0
+Rest s ws log b p r log′ b′ =
+    (start : List ℕ) (p₀ : Parked) (b₀ : List ℕ) → length start ≡ length log → Going s ws start p₀ b₀ log (p .parked) b (p .taken) (p .logged) → Whole (runs s (room start) p₀ b₀ ws) start r log′ b′

@@ -22,18 +22,7 @@ fn course(call: Parked, send: &[u8], receive: &mut [u8], words: &[u32], log: &mu
     if let Turn::Over(end) = turn {
         return answered(p, end);
     }
-    let taken = p.taken;
-    let logged = p.logged;
-    let from = p.parked;
-    let rest = one_by_one(from, send, receive, &words[taken..], &mut log[logged..]);
-    let answer = rest.answer;
-    let parked = rest.parked;
-    Ran {
-        answer,
-        parked,
-        taken: taken + rest.taken,
-        logged: logged + rest.logged,
-    }
+    one_by_one(p, send, receive, words, log)
 }
 
 fn refused(call: Parked, answer: Answer) -> Ran

@@ -1,11 +1,9 @@
 // A run in single turns, one access after the other. It is right for every call, whatever words come.
 ghost use Prim.Native.Nat.{_≤_};
 ghost use lib.ListN.{length};
-ghost use Rattle.runs.specs.Run.{runs, room, Whole};
-ghost use Rattle.blocking.specs.Steps.{Answered, Forward};
+ghost use Rattle.blocking.specs.Steps.{Answered, Forward, Rest};
 use crate::step::advance;
 use parked::End;
-use parked::Parked;
 use runs::Ran;
 use stretches::Progress;
 use stretches::Turn;
@@ -42,22 +40,18 @@ pub(crate) fn answered(p: Progress, end: End) -> Ran
     }
 }
 
-// The whole run of a call: one access after the other, until the call is over, or the words or the log end.
+// The rest of a run, from how far it is: one access after the other, until the call is over, or the words or the log end.
 pub(crate) fn one_by_one(
-    call: Parked,
+    from: Progress,
     send: &[u8],
     receive: &mut [u8],
     words: &[u32],
     log: &mut [u32],
 ) -> Ran
-    ensures { λ r. ⌜ Whole (runs (now (send .entry)) (room (now (log .entry))) call (now (receive .entry)) (now (words .entry))) (now (log .entry)) r (now (log .exit)) (now (receive .exit)) ⌝ }
+    requires { ⌜ (from .taken ≤ length (now words)) × (from .logged ≤ length (now log)) ⌝ }
+    ensures { λ r. ⌜ Rest (now (send .entry)) (now (words .entry)) (now (log .entry)) (now (receive .entry)) from r (now (log .exit)) (now (receive .exit)) ⌝ }
 {
-    let mut p = Progress {
-        turn: Turn::Again,
-        parked: call,
-        taken: 0,
-        logged: 0,
-    };
+    let mut p = from;
     'transfer: loop {
         // From the second round on the first access sends or receives the byte that the last wait found; then the call waits for the next flag.
         // STOPF, ADDR, BERR and ARLO end the whole call, and so does a missing word or room.

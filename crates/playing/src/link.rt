@@ -1,10 +1,10 @@
 // The calls of the non-blocking driver.
-use crate::settings::configuration;
 use answers::Answer;
 use nonblocking::Called;
 use nonblocking::Link;
 use script::calls::*;
 use script::parse::bytes_of;
+use script::settings::configuration;
 use script::slots::*;
 use settling::refused;
 use text::Bytes;

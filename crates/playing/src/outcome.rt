@@ -2,7 +2,6 @@
 use crate::Played;
 use crate::link::play_link;
 use crate::settings::config_call;
-use crate::settings::refusal;
 use crate::unwaited::unwaited_call;
 use access::Report;
 use flat::out::put;
@@ -14,6 +13,7 @@ use print::buffer::add_bytes;
 use print::line::*;
 use print::lines::add_call;
 use script::calls::*;
+use script::settings::refusal;
 use script::slots::Slots;
 use text::Bytes;
 

@@ -1,5 +1,4 @@
 // The blocking calls that never wait.
-use crate::settings::configuration;
 use access::Report;
 use never_wait::construct::i2c1;
 use never_wait::interrupts::clear_irq;
@@ -9,6 +8,7 @@ use never_wait::slave::slave_addressed;
 use never_wait::slave::slave_sbc;
 use numbered::event::event_of;
 use script::calls::*;
+use script::settings::configuration;
 use script::slots::*;
 
 pub(crate) fn unwaited_call(call: Call, slots: &Slots, words: &[u32], log: &mut [u32]) -> Report {

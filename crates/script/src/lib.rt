@@ -3,6 +3,7 @@ pub mod calls;
 pub mod given;
 mod items;
 pub mod parse;
+pub mod settings;
 pub mod slots;
 
 // The words of a line, lent.

@@ -1,5 +1,5 @@
 -- `blocking::turns::one_by_one` meets its contract: one record is the invariant of both loops.
-use Prim.Native.Nat.{_-_, zero-le}
+use Prim.Native.Nat.{_-_}
 use native.Mathlib.Omega.{arith}
 use lib.ListN.{length}
 use borrow.Author.Needs.{needs}
@@ -23,7 +23,7 @@ abbrev μ-transfer : tie.MeasureT-transfer
 μ-transfer send receive₀ words log₀ p₀ receive log p = length log - p .logged
 
 transfer-holds : tie.Need-transfer-holds Inv-loop μ-loop Inv-transfer μ-transfer
-transfer-holds c = carried-none zero-le zero-le
+transfer-holds c = carried-none (c .before .before .before .before .pre .0) (c .before .before .before .before .pre .1)
 
 loop-holds : tie.Need-loop-holds Inv-loop μ-loop Inv-transfer μ-transfer
 loop-holds c = carried-none (c .transfer .inv .words) (c .transfer .inv .room)
