@@ -9,10 +9,10 @@ ghost use Rattle.nonblocking.specs.Model.{model};
 ghost use Rattle.flat.specs.Configured.{configOf};
 ghost use Rattle.flat.specs.Out.{Out};
 use crate::fresh;
-use crate::hot::put_checked;
-use crate::hot::put_errors;
-use crate::hot::put_offered;
-use crate::hot::put_started;
+use crate::out::put_checked;
+use crate::out::put_errors;
+use crate::out::put_offered;
+use crate::out::put_started;
 use flat::out::put;
 use nonblocking::Link;
 

@@ -1,4 +1,4 @@
-// Scripts: the call that a line is, its numbers and its words.
+// Scripts: the call that a line is, with its numbers, its words and its configuration.
 pub mod calls;
 pub mod given;
 mod items;

@@ -1,5 +1,4 @@
 // ADDR: addressed by a master.
-ghost use mathlib.Core.Path.{_≡_};
 ghost use Prim.Native.Nat.{ℕ};
 ghost use mathlib.Core.Bool.{true, cond};
 ghost use mathlib.Core.List.{List, [], _∷_};

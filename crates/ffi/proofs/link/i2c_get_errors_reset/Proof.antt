@@ -1,4 +1,4 @@
--- `ffi::link::i2c_get_errors_reset` meets its contract: a walk of its MIR, by hand. It hands its parameters on to `nonblocking::lent::get_errors_reset`, and the report and `out` to `ffi::hot::put_errors` (`Relay.antt`).
+-- `ffi::link::i2c_get_errors_reset` meets its contract: a walk of its MIR, by hand. It hands its parameters on to `nonblocking::lent::get_errors_reset`, and the report and `out` to `ffi::out::put_errors` (`Relay.antt`).
 -- All that the proof knows of either is that it meets its contract.
 use mathlib.Core.Option.{none}
 use contract.Fact.{fact-mono}
@@ -16,8 +16,8 @@ use Rattle.nonblocking.proofs.Link.Laws as L′
 use Rattle.nonblocking.proofs.lent.get_errors_reset as callee
 use Rattle.nonblocking.proofs.lent.get_errors_reset.Symbol as symbol
 use Rattle.nonblocking.proofs.lent.get_errors_reset.Met as known
-use Rattle.ffi.proofs.hot.put_errors.Symbol as put-symbol
-use Rattle.ffi.proofs.hot.put_errors.Met as put-known
+use Rattle.ffi.proofs.out.put_errors.Symbol as put-symbol
+use Rattle.ffi.proofs.out.put_errors.Met as put-known
 use Rattle.ffi.proofs.link.i2c_get_errors_reset as f
 use Rattle.ffi.proofs.link.i2c_get_errors_reset.Key as key
 use Rattle.ffi.proofs.link.i2c_get_errors_reset.Statement as stated
@@ -56,5 +56,5 @@ unfolding code.routine
 i2c-get-errors-reset-spec 𝓤 H 𝓜 𝓖 𝓡 =
     relay-closes 𝓤 H 𝓜 𝓖 𝓡 f.ended (f.clauses 𝓤 H (𝓖 .A) (𝓜 .mem) (𝓡 .run)) spelt (λ κs. (mut-tells (named 0) (κs .0) L.the-row, (mut-tells (named 1) (κs .1 .0) Numbers, tt)))
     code.env key.name code.function (code.unfolded 𝓤 H 𝓜 𝓡) (Callee 𝓤 H (𝓖 .A) (𝓜 .mem) (𝓡 .run)) symbol.name symbol.routine code.calls-nonblocking·lent·get-errors-reset (known.met 𝓤 H 𝓜 𝓖 𝓡)
-    (Put 𝓤 H (𝓖 .A) (𝓜 .mem) (𝓡 .run)) put-symbol.name put-symbol.routine code.calls-ffi·hot·put-errors (put-known.met 𝓤 H 𝓜 𝓖 𝓡)
+    (Put 𝓤 H (𝓖 .A) (𝓜 .mem) (𝓡 .run)) put-symbol.name put-symbol.routine code.calls-ffi·out·put-errors (put-known.met 𝓤 H 𝓜 𝓖 𝓡)
     (λ C Λ fm met put-met κs qs bs x g. walk 𝓤 H (𝓖 .A) (givenOf 𝓤 H 𝓜 𝓖) (𝓜 .mem) (𝓡 .run) C Λ fm met put-met κs qs x)

@@ -1,5 +1,5 @@
 -- `stretches::polls::keep_byte` meets its contract.
-use mathlib.Core.Path.{_≡_, sym, _∙_}
+use mathlib.Core.Path.{sym}
 use lib.Seq.{set-out}
 use borrow.Author.Needs.{needs}
 use Rattle.stretches.proofs.polls.keep_byte.Statement.{statement}
