@@ -10,8 +10,9 @@ use Rattle.config.specs.declared.Timing.{Timing}
 use Rattle.config.specs.declared.Timing.the-variants.{Bits, NoRate}
 use Rattle.config.specs.declared.SlaveAddressMask.{SlaveAddressMask}
 use Rattle.config.specs.declared.SlaveAddressMask.the-variants.{MaskNone, MaskOneBit, MaskTwoBits, MaskThreeBits, MaskFourBits, MaskFiveBits, MaskSixBits, MaskAllBits}
-use Rattle.limits.specs.declared.Mode.{Mode}
-use Rattle.limits.specs.Limits.{modeOf, filterAllowed}
+use Rattle.limits.specs.Limits.{filterAllowed}
+use Rattle.speeds.specs.declared.Mode.{Mode}
+use Rattle.speeds.specs.Speeds.{modeOf}
 use Rattle.fields.specs.Layout.{SCLL, SCLH, SDADEL, SCLDEL, PRESC, _⟨_≔_⟩, _⟨_⟩}
 use Rattle.answers.specs.Answers.{Said, says}
 

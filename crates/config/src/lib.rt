@@ -6,8 +6,8 @@ ghost use Rattle.answers.specs.Answers.{said};
 ghost use Rattle.config.specs.Config.{maskNumber, plain, withFilters, withOwnAddress, withSecondAddress, filterAnswer, withFilter, modeWord, atQuotient, atSpeed, timingBits, saidTiming, period};
 use answers::Answer;
 use fields::Field;
-use limits::Mode;
 use limits::filter_allowed;
+use speeds::Mode;
 
 // How many of the low bits of the second address are not compared.
 pub enum SlaveAddressMask {

@@ -7,13 +7,13 @@ ghost use Rattle.addressing.specs.Addressed.{slaveAddressed};
 ghost use Rattle.never_wait.specs.NeverWait.{slaveSbc, interrupt, clearIrq};
 ghost use Rattle.flat.specs.Configured.{configOf};
 ghost use Rattle.flat.specs.Out.{Out};
-ghost use Rattle.numbered.specs.Event.{eventOf};
+ghost use Rattle.flags.specs.Flags.{eventOf};
 use blocking::construct;
 use blocking::slave;
+use flags::event_of;
 use flat::configured::config_of;
 use flat::out::put;
 use never_wait::interrupts;
-use numbered::event::event_of;
 
 #[no_mangle]
 pub extern "C" fn i2c_blocking_slave_addressed(words: &[u32], log: &mut [u32], out: &mut [u64; 6])

@@ -2,12 +2,12 @@
 ghost use mathlib.Core.List.{[]};
 ghost use Rattle.runs.specs.Run.{called, outcome, room, Whole};
 ghost use Rattle.kept.specs.Kept.{takenUp};
-ghost use Rattle.flat.specs.Left.{Left};
+ghost use Rattle.leaving.specs.Left.{Left};
 ghost use Rattle.phases.specs.declared.Kind.the-variants.{Write, Read, WriteRead, SlaveWrite, SlaveRead, SlaveWaitAddressed};
 use blocking::master;
 use blocking::run::run;
 use blocking::slave;
-use flat::leave;
+use leaving::leave;
 use numbered::call::take_up;
 
 #[no_mangle]

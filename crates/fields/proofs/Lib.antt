@@ -1,3 +1,4 @@
 pub mod FieldLaws
 pub mod ShiftAndMask
 pub mod Places
+pub mod Past

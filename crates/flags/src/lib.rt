@@ -2,7 +2,7 @@
 ghost use mathlib.Core.Path.{_≡_};
 ghost use Rattle.fields.specs.Field.{put};
 ghost use Rattle.fields.specs.Words.{flushed};
-ghost use Rattle.flags.specs.Flags.{directionOf, addressCode};
+ghost use Rattle.flags.specs.Flags.{directionOf, addressCode, eventOf};
 use answers::I2cDirection;
 use answers::MASTER_READ_SLAVE_WRITE;
 use answers::MASTER_WRITE_SLAVE_READ;
@@ -12,6 +12,16 @@ use fields::Field;
 pub enum Event {
     AddressMatch,
     Rxne,
+}
+
+// An event by its number. Every number is taken.
+pub fn event_of(number: u8) -> Event
+    ensures { λ r. ⌜ r ≡ eventOf number ⌝ }
+{
+    if 0 < number {
+        return Event::Rxne;
+    }
+    Event::AddressMatch
 }
 
 pub struct Isr;

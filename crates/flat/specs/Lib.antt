@@ -1,3 +1,2 @@
 pub mod Configured
-pub mod Left
 pub mod Out

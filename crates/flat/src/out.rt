@@ -47,36 +47,3 @@ pub fn put(report: Report, out: &mut [u64; 6])
         ),
     }
 }
-
-// After a run of the blocking driver.
-pub(crate) fn put_ran(report: Report, out: &mut [u64; 6])
-    ensures { λ _. ⌜ now (out .exit) ≡ flat report ⌝ }
-{
-    let taken = report.taken as u64;
-    let logged = report.logged as u64;
-    let answer = report.answer;
-    match answer {
-        Answer::IncorrectFrameSize(count) => *out = [5, taken, logged, count as u64, 0, 0],
-        Answer::Addressed { address, direction } => *out = [
-            0x41,
-            taken,
-            logged,
-            address as u64,
-            direction as u64,
-            0,
-        ],
-        Answer::Done
-        | Answer::Pending
-        | Answer::Nack
-        | Answer::BusError
-        | Answer::ArbitrationLost
-        | Answer::BadLength
-        | Answer::NoRate
-        | Answer::BadFilter
-        | Answer::OutOfWords
-        | Answer::LogFull
-        | Answer::WrongCall
-        | Answer::ImpossibleLink => *out = [answer.number() as u64, taken, logged, 0, 0, 0],
-        _ => put(report, out),
-    }
-}

@@ -1,15 +1,7 @@
--- The limits of a configuration, the speeds and the cycles of the digital filter, of a transfer's length, and of what a link holds.
+-- The limits of the digital filter's cycles, of a transfer's length, and of what a link holds.
 use Prim.Native.Nat.{ℕ, _+_}
 use mathlib.Core.Bool.{Bool, cond, _&&_, _||_}
 use lib.Dec.{ltb, leb}
-use Rattle.limits.specs.declared.Mode.{Mode}
-
--- what a speed comes with: up to 100,000, and above
-abbrev pub modeOf : ℕ → Mode
-modeOf speed =
-    cond (leb speed 100000)
-    (record { presc = 3; least = 5; shorter = 4; sdadel = 2; scldel = 4 })
-    (record { presc = 1; least = 7; shorter = 6; sdadel = 1; scldel = 3 })
 
 -- the setter of the digital filter takes 0 to 16
 abbrev pub filterAllowed : ℕ → Bool

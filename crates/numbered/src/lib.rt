@@ -1,3 +1,2 @@
-// What C hands in by number: a parked call, and an event.
+// A parked call that C hands in by number.
 pub mod call;
-pub mod event;

@@ -20,7 +20,8 @@ use Rattle.parked.specs.declared.Parked.{Parked}
 use Rattle.phases.specs.Kinds.{restarts}
 use Rattle.parked.specs.Wants.{span, more}
 use Rattle.phases.specs.Phases.{afterOpening, role}
-use Rattle.waits.specs.Waits.{wanted as wantedOf, compared as comparedOf, afterFound as afterFoundOf}
+use Rattle.final_flags.specs.FinalFlags.{compared as comparedOf}
+use Rattle.waits.specs.Waits.{wanted as wantedOf, afterFound as afterFoundOf}
 
 -- the flag that is waited for
 unfoldable pub wanted : Parked → Wanted

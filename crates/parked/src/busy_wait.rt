@@ -1,4 +1,4 @@
-// `busy_wait` of a parked call, and the answers of the final flags. What each flag leads to is in `waits`.
+// `busy_wait` of a parked call, and the answers of the final flags. What each flag leads to is in `waits`, what a final one compares in `final_flags`.
 ghost use mathlib.Core.Path.{_≡_};
 ghost use Rattle.answers.specs.Answers.{said};
 ghost use Rattle.wanted.specs.Found.{foundIn};
@@ -7,11 +7,11 @@ ghost use Rattle.parked.specs.After.{wanted, whole, addrAnswer, stopAnsw
 use crate::Parked;
 use crate::machine::addressed;
 use answers::Answer;
+use final_flags::compared;
 use phases::End;
 use phases::Kind;
 use phases::Phase;
 use waits::after_found;
-use waits::compared;
 use wanted::Wanted;
 
 // The flag that is waited for: TC where a `write_read` has sent its bytes.

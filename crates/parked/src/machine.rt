@@ -13,13 +13,13 @@ use answers::Answer;
 use cr2::Cr2;
 use data_registers::Rxdr;
 use data_registers::Txdr;
+use final_flags::pending_txe;
 use flags::Icr;
 use flags::Isr;
 use phases::End;
 use phases::Kind;
 use phases::Phase;
 use phases::Role;
-use waits::flush::pending_txe;
 
 // The next access.
 impl Parked {

@@ -1,6 +1,6 @@
 -- What tells the waiting calls apart. `ReadBack` is a `write_read` from its second START on.
 use Prim.Native.Nat.{ℕ, _%_}
-use mathlib.Core.Bool.{Bool, true, false}
+use mathlib.Core.Bool.{Bool, true, false, cond}
 use Rattle.fields.specs.Words.{started, sized}
 use Rattle.phases.specs.declared.Kind.{Kind}
 use Rattle.phases.specs.declared.Kind.the-variants.{Write, Read, WriteRead, ReadBack, SlaveWrite, SlaveRead, SlaveWaitAddressed}
@@ -48,6 +48,10 @@ restarts ReadBack = false
 restarts SlaveWrite = false
 restarts SlaveRead = false
 restarts SlaveWaitAddressed = false
+
+-- the wait for TC: a `write_read` has sent its bytes; `more` says that a byte is left to send, or a place to fill
+abbrev pub tcWait : Kind → Bool → Bool
+tcWait k more = cond more false (restarts k)
 
 -- it sends 0x21 for each TXIS after its last byte
 abbrev pub pads : Kind → Bool

@@ -33,10 +33,8 @@ fn play_call(
     match call {
         BL_WRITE..=BL_RESUME => play_waiting(kept, call, text, slots, given, lent, send, recv),
         _ => {
-            let before = kept.played;
             let mut after = kept;
-            let played = play(before.link, call, text, slots, given, lent);
-            after.played = played;
+            after.played = play(kept.played, call, text, slots, given, lent);
             after
         }
     }

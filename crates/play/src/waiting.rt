@@ -1,7 +1,7 @@
 // A line of a blocking call that waits.
 use crate::Kept;
 use crate::begun::run_call;
-use flat::leave;
+use leaving::leave;
 use playing::Played;
 use runs::Ran;
 use script::calls::*;

@@ -38,13 +38,14 @@ fn told(called: Called) -> Played {
 
 // A line's call, but for the blocking ones that wait.
 pub fn play(
-    link: Link,
+    before: Played,
     call: Call,
     text: &[u8],
     slots: &Slots,
     words: &[u32],
     log: &mut [u32],
 ) -> Played {
+    let link = before.link;
     let refusal = refusal(call, slots);
     if 0 < refusal {
         return Played {
@@ -67,13 +68,13 @@ pub fn play(
 
 // The line of a link after a call, but for its bytes.
 fn link_line(link: Link) -> Line {
-    begin(b'S')
-        .number(link.address as u64, HEX, FOUR)
-        .number(link.watchdog as u64, TEN, ALL)
-        .number(link.index as u64, TEN, ALL)
-        .number(link.length as u64, TEN, ALL)
-        .number(link.errors as u64, TEN, ALL)
-        .number(link.length_write_read as u64, TEN, ALL)
+    let mut line = begin(b'S');
+    line = line.number(link.address as u64, HEX, FOUR);
+    line = line.number(link.watchdog as u64, TEN, ALL);
+    line = line.number(link.index as u64, TEN, ALL);
+    line = line.number(link.length as u64, TEN, ALL);
+    line = line.number(link.errors as u64, TEN, ALL);
+    line.number(link.length_write_read as u64, TEN, ALL)
 }
 
 // What is shown after a call: a link, or the recv slice.

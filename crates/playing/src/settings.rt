@@ -18,12 +18,10 @@ fn timing(config: Config, clock: u32) -> [u64; 6] {
 
 // A call of the configuration; what is no call at all is told as that. Of the setter it is the setting that it leaves.
 pub(crate) fn config_call(call: Call, slots: &Slots) -> [u64; 6] {
+    let config = configuration(slots);
     match call {
-        CFG_TIMING => timing(configuration(slots), word(slots, CLOCK)),
-        CFG_FILTER => {
-            let config = configuration(slots);
-            [TOLD_WORD, 0, 0, config.digital_filter as u64, 0, 0]
-        }
+        CFG_TIMING => timing(config, word(slots, CLOCK)),
+        CFG_FILTER => [TOLD_WORD, 0, 0, config.digital_filter as u64, 0, 0],
         CFG_PERIOD => [
             TOLD_PERIOD,
             0,

@@ -1,12 +1,12 @@
 // The blocking calls that never wait.
 use access::Report;
+use flags::event_of;
 use never_wait::construct::i2c1;
 use never_wait::interrupts::clear_irq;
 use never_wait::interrupts::listen;
 use never_wait::interrupts::unlisten;
 use never_wait::slave::slave_addressed;
 use never_wait::slave::slave_sbc;
-use numbered::event::event_of;
 use script::calls::*;
 use script::settings::configuration;
 use script::slots::*;

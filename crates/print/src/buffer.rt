@@ -69,7 +69,11 @@ pub const NO_BYTES: usize = 18_446_744_073_709_551_615;
 fn before(line: Line, count: usize) -> Line {
     match count {
         NO_BYTES => line.byte(b'\n'),
-        0 => line.byte(b' ').byte(b'-').byte(b'\n'),
+        0 => {
+            let mut line = line.byte(b' ');
+            line = line.byte(b'-');
+            line.byte(b'\n')
+        }
         _ => line.byte(b' '),
     }
 }

@@ -15,10 +15,10 @@ fn word_at(log: &[u32], place: usize) -> u32 {
 // An access: R or W, the offset, the word.
 fn access(number: u32, word: u32) -> Line {
     let kind = if number < 0x100 { b'R' } else { b'W' };
-    begin(kind)
-        .number(number as u64, HEX, TWO)
-        .number(word as u64, HEX, EIGHT)
-        .byte(b'\n')
+    let mut line = begin(kind);
+    line = line.number(number as u64, HEX, TWO);
+    line = line.number(word as u64, HEX, EIGHT);
+    line.byte(b'\n')
 }
 
 // The accesses of a log's first places.
@@ -45,18 +45,35 @@ pub const TOLD_BAD_LINE: u64 = 0x3F;
 
 // The line of what is told, by its number or its letter and the first two of its values.
 fn told(number: u64, first: u64, second: u64) -> Line {
-    let line = begin(b'=');
+    let mut line = begin(b'=');
     match number {
-        5 => line.number(5, TEN, ALL).number(first, TEN, ALL),
-        0x41 | 0x44 => line.number(number, LETTERS, ONE)
-            .number(first, HEX, FOUR)
-            .number(second, TEN, ALL),
-        0x45 | TOLD_PERIOD => line.number(number, LETTERS, ONE).number(first, TEN, ALL),
+        5 => {
+            line = line.number(5, TEN, ALL);
+            line.number(first, TEN, ALL)
+        }
+        0x41 | 0x44 => {
+            line = line.number(number, LETTERS, ONE);
+            line = line.number(first, HEX, FOUR);
+            line.number(second, TEN, ALL)
+        }
+        0x45 | TOLD_PERIOD => {
+            line = line.number(number, LETTERS, ONE);
+            line.number(first, TEN, ALL)
+        }
         0x47 => line.number(number, LETTERS, ONE),
-        0x4E => line.number(number, LETTERS, ONE).number(first, HEX, FOUR),
-        TOLD_WORD => line.number(number, LETTERS, ONE).number(first, HEX, EIGHT),
+        0x4E => {
+            line = line.number(number, LETTERS, ONE);
+            line.number(first, HEX, FOUR)
+        }
+        TOLD_WORD => {
+            line = line.number(number, LETTERS, ONE);
+            line.number(first, HEX, EIGHT)
+        }
         // `bad line`
-        TOLD_BAD_LINE => begin(b'?').number(0x6261_6420_6C69_6E65, LETTERS, 0x100_0000_0000_0000),
+        TOLD_BAD_LINE => {
+            line = begin(b'?');
+            line.number(0x6261_6420_6C69_6E65, LETTERS, 0x100_0000_0000_0000)
+        }
         _ => line.number(number, TEN, ALL),
     }
 }

@@ -1,6 +1,5 @@
 -- `busy_wait`: the flag that a call of a kind waits for, and the phase that each flag leads to. `more` says that a byte is left to send, or a place to fill.
-use Prim.Native.Nat.{ℕ}
-use mathlib.Core.Bool.{Bool, false, cond}
+use mathlib.Core.Bool.{Bool, cond}
 use Rattle.wanted.specs.declared.Wanted.{Wanted}
 use Rattle.wanted.specs.declared.Wanted.the-variants.{Txis as WantTxis, Rxne as WantRxne, Tc as WantTc}
 use Rattle.wanted.specs.declared.Found.{Found}
@@ -9,19 +8,11 @@ use Rattle.phases.specs.declared.End.the-variants.{Addr}
 use Rattle.phases.specs.declared.Kind.{Kind}
 use Rattle.phases.specs.declared.Phase.{Phase}
 use Rattle.phases.specs.declared.Phase.the-variants.{Wait, Transfer, Restart, Stretched, ClearBerr, ClearArlo, ClearNackf, FlushTxis, Ended}
-use Rattle.phases.specs.Kinds.{incoming, restarts, pads}
-
--- the wait for TC: a `write_read` has sent its bytes
-abbrev pub tcWait : Kind → Bool → Bool
-tcWait k more = cond more false (restarts k)
+use Rattle.phases.specs.Kinds.{incoming, pads, tcWait}
 
 -- the flag that is waited for
 abbrev pub wanted : Kind → Bool → Wanted
 wanted k more = cond (incoming k) WantRxne (cond (tcWait k more) WantTc WantTxis)
-
--- the length that a final flag compares with the count: 254 in the wait for TC
-abbrev pub compared : Kind → Bool → ℕ → ℕ
-compared k more span = cond (tcWait k more) 254 span
 
 -- the wanted flag: TC restarts; a byte is moved while one is left, and `slave_write` sends on
 abbrev pub found : Kind → Bool → Phase

@@ -1,26 +1,11 @@
-// `busy_wait`: the length that a final flag compares, and the phase that each flag leads to.
+// `busy_wait`: the phase that each flag leads to.
 // A wait is told the kind of the call, and whether a byte is left to send or a place to fill (`more`).
 ghost use mathlib.Core.Path.{_≡_};
-ghost use Rattle.waits.specs.Waits.{compared, found, afterFound};
+ghost use Rattle.waits.specs.Waits.{found, afterFound};
 use phases::End;
 use phases::Kind;
 use phases::Phase;
 use wanted::Found;
-
-pub mod flush;
-
-// The length that a final flag compares with the count, of a call that counts to `span`. The wait for TC has a dummy.
-pub fn compared(kind: Kind, more: bool, span: usize) -> usize
-    ensures { λ r. ⌜ r ≡ compared kind more span ⌝ }
-{
-    if more {
-        return span;
-    }
-    if kind.restarts() {
-        return 254;
-    }
-    span
-}
 
 // The wanted flag: a byte is moved while one is left. A slave sends on, a `write_read` restarts.
 fn found(kind: Kind, more: bool) -> Phase

@@ -46,9 +46,9 @@ fn more(ahead: Ahead, buffer: &mut [u8; 4096], line: &mut Text) -> Ahead {
 
 // Reads ahead until there are three words or another line has come.
 pub(crate) fn fill(ahead: Ahead, buffer: &mut [u8; 4096], line: &mut Text) -> Ahead {
-    let one = more(ahead, buffer, line);
-    let two = more(one, buffer, line);
-    more(two, buffer, line)
+    let mut next = more(ahead, buffer, line);
+    next = more(next, buffer, line);
+    more(next, buffer, line)
 }
 
 // What is left after a call took its words.

@@ -3,7 +3,7 @@ use borrow.Author.Needs.{needs}
 use mathlib.Core.Path.{sym}
 use lib.ListN.{List·getD-eq-default}
 use Rattle.flat.specs.Configured.{masks}
-use Rattle.kept.proofs.Past.{past}
+use Rattle.fields.proofs.Past.{past}
 use Rattle.flat.proofs.configured.mask_of.Statement.{statement}
 use Rattle.flat.proofs.configured.mask_of.Tie as tie
 

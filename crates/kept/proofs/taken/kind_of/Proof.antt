@@ -3,7 +3,7 @@ use borrow.Author.Needs.{needs}
 use mathlib.Core.Path.{sym}
 use lib.ListN.{List·getD-eq-default}
 use Rattle.kept.specs.Kept.{kinds}
-use Rattle.kept.proofs.Past.{past}
+use Rattle.fields.proofs.Past.{past}
 use Rattle.kept.proofs.taken.kind_of.Statement.{statement}
 use Rattle.kept.proofs.taken.kind_of.Tie as tie
 

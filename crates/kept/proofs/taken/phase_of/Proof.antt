@@ -2,7 +2,7 @@
 use mathlib.Core.Path.{sym}
 use lib.ListN.{List·getD-eq-default}
 use Rattle.kept.specs.Kept.{phases}
-use Rattle.kept.proofs.Past.{past}
+use Rattle.fields.proofs.Past.{past}
 use Rattle.kept.proofs.taken.phase_of.Statement.{statement}
 use Rattle.kept.proofs.taken.phase_of.Tie as tie
 

@@ -1,7 +1,7 @@
--- `waits::flush::pending_txe` meets its contract.
+-- `final_flags::pending_txe` meets its contract.
 use mathlib.Core.Path.{_≡_, sym, _∙_}
-use Rattle.waits.proofs.flush.pending_txe.Statement.{statement}
-use Rattle.waits.proofs.flush.pending_txe.Tie as tie
+use Rattle.final_flags.proofs.pending_txe.Statement.{statement}
+use Rattle.final_flags.proofs.pending_txe.Tie as tie
 
 returns : tie.Need-returns
 returns c = rw (sym (c .before .is-set .ensures) ∙ c .if1 .taken)

@@ -1,9 +1,9 @@
--- `limits::Mode::of` meets its contract.
+-- `speeds::Mode::of` meets its contract.
 use mathlib.Core.Path.{refl}
 use native.Mathlib.Omega.{arith}
 use borrow.Author.Tests.{le-leb, lt-leb}
-use Rattle.limits.proofs.Mode.of.Statement.{statement}
-use Rattle.limits.proofs.Mode.of.Tie as tie
+use Rattle.speeds.proofs.Mode.of.Statement.{statement}
+use Rattle.speeds.proofs.Mode.of.Tie as tie
 
 returns : tie.Need-returns
 returns c = simp (le-leb _ _ (c .if1 .taken)) (refl, omega arith, omega arith, omega arith)

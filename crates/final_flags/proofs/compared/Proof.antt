@@ -1,7 +1,7 @@
--- `waits::compared` meets its contract.
+-- `final_flags::compared` meets its contract.
 use mathlib.Core.Path.{_≡_, sym, _∙_}
-use Rattle.waits.proofs.compared.Statement.{statement}
-use Rattle.waits.proofs.compared.Tie as tie
+use Rattle.final_flags.proofs.compared.Statement.{statement}
+use Rattle.final_flags.proofs.compared.Tie as tie
 
 returns : tie.Need-returns
 returns c = rw (c .if1 .taken)
