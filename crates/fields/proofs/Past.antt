@@ -1,4 +1,4 @@
--- A number that is none of the first m is m or more.
+-- A number that is none of the first m is m or more. No law of a field: it stands here because `flat` and `kept`, which cite it, both need `fields`.
 use Prim.Native.Nat.{ℕ, zero, suc, _≤_, zero-le}
 use mathlib.Core.List.{[], _∷_}
 use mathlib.Core.Path.{sym}

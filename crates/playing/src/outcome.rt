@@ -36,7 +36,7 @@ fn told(called: Called) -> Played {
     }
 }
 
-// A line's call, but for the blocking ones that wait.
+// A line's call, but for the blocking ones that wait, on the link that the line before it left.
 pub fn play(
     before: Played,
     call: Call,
