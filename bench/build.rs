@@ -1,10 +1,10 @@
-//! Links the Rattle module: target/staticlib/libffi.a, which `rt staticlib ffi` writes.
+//! Links the Rattle module: crates/ffi/out/libffi.a, which `rt lib` writes there.
 
 use std::env::var;
 use std::path::PathBuf;
 
 fn main() {
-    let folder = PathBuf::from(var("CARGO_MANIFEST_DIR").unwrap()).join("../target/staticlib");
+    let folder = PathBuf::from(var("CARGO_MANIFEST_DIR").unwrap()).join("../crates/ffi/out");
     println!(
         "cargo::rerun-if-changed={}",
         folder.join("libffi.a").display()

@@ -1,4 +1,6 @@
 // The blocking `slave_addressed`, which never waits. It is refused whole: no access is made where a word or room is missing.
+#![tactic(auto)]
+
 ghost use Rattle.std.specs.Prelude.{length};
 ghost use Rattle.access.specs.Access.{Reported};
 ghost use Rattle.addressing.specs.Addressed.{slave_addressed};

@@ -1,4 +1,6 @@
 // The answers of a call.
+#![tactic(auto)]
+
 ghost use Rattle.std.specs.Prelude.{◌≡◌};
 ghost use Rattle.answers.specs.Answers.{said};
 
@@ -10,7 +12,7 @@ pub const MASTER_READ_SLAVE_WRITE: I2cDirection = 0;
 
 pub const MASTER_WRITE_SLAVE_READ: I2cDirection = 1;
 
-#[derive(Drop)]
+#[derive(Clone, Copy)]
 pub enum Answer {
     Done,
     // Nothing to do yet, or more to come.

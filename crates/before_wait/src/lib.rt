@@ -1,4 +1,6 @@
 // The accesses before the first wait: the phase after each.
+#![tactic(auto)]
+
 ghost use Rattle.std.specs.Prelude.{◌≡◌, cond};
 ghost use Rattle.fields.specs.Words.{starting};
 ghost use Rattle.fields.specs.Layout.{RXNE, ◌has◌};

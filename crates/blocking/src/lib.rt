@@ -2,6 +2,8 @@
 // room in the log is missing.
 // What a run means stands in `runs`, and the calls that never wait in `never_wait`; both are handed on here. What follows
 // plainly in a run stands in `stretches` and `courses`, and whatever else comes in the module `turns`.
+#![tactic(auto)]
+
 pub use never_wait::{Event, construct, interrupts};
 pub use runs::Ran;
 

@@ -1,5 +1,7 @@
 // `check_isr_flags` and `execute_watchdog` over a link's fields, lent one by one: the core under the by-value and the lent calls.
 // The flag that the ISR word is taken as chooses the step.
+#![tactic(auto)]
+
 ghost use Rattle.std.specs.Prelude.{◌≡◌, ℕ, List, length as size};
 ghost use Rattle.ending.specs.Link.{link_at};
 ghost use Rattle.ending.specs.Call.{check_isr_flags};

@@ -1,4 +1,6 @@
 // The configuration, its timing word, and the SCL period.
+#![tactic(auto)]
+
 ghost use Rattle.std.specs.Prelude.{◌≡◌, true, false, ◌<◌, ◌≤◌, min};
 ghost use Rattle.answers.specs.Answers.{said};
 ghost use Rattle.config.specs.Config.{mask_number, plain, with_filters, with_own_address, with_second_address, filter_answer, with_filter, mode_word, at_quotient, at_speed, timing_bits, said_timing, period};
@@ -9,7 +11,7 @@ use limits::filter_allowed;
 use speeds::Mode;
 
 // How many of the low bits of the second address are not compared.
-#[derive(Drop)]
+#[derive(Clone, Copy)]
 pub enum SlaveAddressMask {
     MaskNone,
     MaskOneBit,
@@ -39,13 +41,13 @@ impl SlaveAddressMask {
 }
 
 // A number that may be set or not.
-#[derive(Drop)]
+#[derive(Clone, Copy)]
 pub enum Setting {
     Unset,
     Set(u32),
 }
 
-#[derive(Drop)]
+#[derive(Clone, Copy)]
 pub struct Config {
     pub speed: Setting,
     pub timing: Setting,
@@ -58,14 +60,14 @@ pub struct Config {
 }
 
 // What the setter of the digital filter answers, with the configuration.
-#[derive(Drop)]
+#[derive(Clone, Copy)]
 pub struct Filtered {
     pub answer: Answer,
     pub config: Config,
 }
 
 // The word for TIMINGR, or that the clock is too slow for the speed or no speed is set.
-#[derive(Drop)]
+#[derive(Clone, Copy)]
 pub enum Timing {
     Bits(u32),
     NoRate,

@@ -1,4 +1,6 @@
 // Construction: what both drivers write before their first transfer.
+#![tactic(auto)]
+
 ghost use Rattle.std.specs.Prelude.{◌≡◌, ◌≤◌, ltb, length, []};
 ghost use Rattle.access.specs.Access.{Reported, settle, settled};
 ghost use Rattle.answers.specs.Answers.{says};
@@ -40,7 +42,7 @@ fn own_addresses(first: u16, second: u8) -> usize
 }
 
 // What is written for the first of them: OAR1 with its word, or OAR2 where the first own address is 0.
-#[derive(Drop)]
+#[derive(Clone, Copy)]
 pub struct Written {
     pub number: u32,
     pub word: u32,

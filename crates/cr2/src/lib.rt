@@ -1,11 +1,13 @@
 // CR2: the transfer's address, direction, length and end.
+#![tactic(auto)]
+
 ghost use Rattle.std.specs.Prelude.{◌≡◌, ◌*◌, ◌%◌, true, false};
 ghost use Rattle.fields.specs.Layout.{ADD10, ◌has◌};
 ghost use Rattle.fields.specs.Words.{started, sized, refused, stopped, starting, sadd8, sadd16};
 
 use fields::Field;
 
-#[derive(Drop)]
+#[derive(Clone, Copy)]
 pub struct Cr2;
 
 impl Cr2 {

@@ -1,10 +1,12 @@
 // RXDR and TXDR: the byte that came in, and the byte to send.
+#![tactic(auto)]
+
 ghost use Rattle.std.specs.Prelude.{◌≡◌};
 ghost use Rattle.fields.specs.Words.{received, sent};
 
 use fields::Field;
 
-#[derive(Drop)]
+#[derive(Clone, Copy)]
 pub struct Rxdr;
 
 impl Rxdr {
@@ -21,7 +23,7 @@ impl Rxdr {
     }
 }
 
-#[derive(Drop)]
+#[derive(Clone, Copy)]
 pub struct Txdr;
 
 impl Txdr {

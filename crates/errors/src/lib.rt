@@ -1,4 +1,6 @@
 // The error count of a link, and the refusals that many calls share.
+#![tactic(auto)]
+
 ghost use Rattle.std.specs.Prelude.{◌≡◌};
 ghost use Rattle.limits.specs.Limits.{one_more};
 

@@ -1,7 +1,9 @@
 // The calls of both drivers for C: a slice is a pointer and a count, a link or a parked call lies in the caller's memory, and the answer is six numbers.
+#![tactic(auto)]
+
 mod fresh;
 mod link;
 mod never;
 mod out;
 mod seen;
-mod waits;
+mod waiting;

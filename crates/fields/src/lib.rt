@@ -1,9 +1,11 @@
 // A field of a 32-bit register word: got, put and cleared by shift and mask.
+#![tactic(auto)]
+
 ghost use Rattle.std.specs.Prelude.{◌≡◌, ◌-◌, ◌<◌, ◌^◌, min};
 ghost use Rattle.fields.specs.Field.{digit, get, put, is_set};
 
 // The `width` bits of a word from bit `place` on.
-#[derive(Drop)]
+#[derive(Clone, Copy)]
 pub struct Field {
     pub place: u32,
     pub width: u32,

@@ -1,4 +1,6 @@
 // At a final flag of `busy_wait`: the length that it compares, and `flush_txdr`.
+#![tactic(auto)]
+
 ghost use Rattle.std.specs.Prelude.{◌≡◌, cond};
 ghost use Rattle.fields.specs.Layout.{TXE, ◌has◌};
 ghost use Rattle.final_flags.specs.FinalFlags.{compared};

@@ -1,4 +1,6 @@
 // The order in which `check_isr_flags` looks at the flags of an ISR word.
+#![tactic(auto)]
+
 ghost use Rattle.std.specs.Prelude.{◌≡◌, ◌||◌, cond};
 ghost use Rattle.fields.specs.Layout.{◌has◌, BERR, ARLO, NACKF, STOPF, TC, TCR, ADDR};
 ghost use Rattle.flag_order.specs.FlagOrder.{taken_as};
@@ -6,7 +8,7 @@ ghost use Rattle.flag_order.specs.FlagOrder.{taken_as};
 use flags::Isr;
 
 // The flag that an ISR word is taken as.
-#[derive(Drop)]
+#[derive(Clone, Copy)]
 pub enum Flag {
     Berr,
     Arlo,

@@ -1,4 +1,6 @@
 // ISR and ICR: the flags, and what clears them.
+#![tactic(auto)]
+
 ghost use Rattle.std.specs.Prelude.{◌≡◌};
 ghost use Rattle.fields.specs.Field.{put};
 ghost use Rattle.fields.specs.Words.{flushed};
@@ -8,7 +10,7 @@ use answers::{I2cDirection, MASTER_READ_SLAVE_WRITE, MASTER_WRITE_SLAVE_READ};
 use fields::Field;
 
 // What the blocking `listen` can ask for: ADDR or RXNE.
-#[derive(Drop)]
+#[derive(Clone, Copy)]
 pub enum Event {
     AddressMatch,
     Rxne,
@@ -24,7 +26,7 @@ pub fn event_of(number: u8) -> Event
     Event::AddressMatch
 }
 
-#[derive(Drop)]
+#[derive(Clone, Copy)]
 pub struct Isr;
 
 impl Isr {
@@ -89,7 +91,7 @@ impl Isr {
     }
 }
 
-#[derive(Drop)]
+#[derive(Clone, Copy)]
 pub struct Icr;
 
 impl Icr {

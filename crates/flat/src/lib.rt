@@ -1,3 +1,5 @@
 // Answers and configurations as numbers.
+#![tactic(auto)]
+
 pub mod configured;
 pub mod out;

@@ -1,4 +1,6 @@
 // A parked call as seven numbers, which a caller keeps until it resumes the call.
+#![tactic(auto)]
+
 ghost use Rattle.std.specs.Prelude.{◌≡◌, [], ◌∷◌};
 ghost use Rattle.kept.specs.Kept.{kind_number, opening_number, end_number, phase_number, opening_word, end_word, phase_word, laid, KeptCall};
 

@@ -1,4 +1,6 @@
 // What a run of the blocking driver leaves to a caller, as numbers.
+#![tactic(auto)]
+
 ghost use Rattle.std.specs.Prelude.{◌≡◌};
 ghost use Rattle.answers.specs.Answers.{said};
 ghost use Rattle.flat.specs.Out.{flat, six};

@@ -1,4 +1,6 @@
 // `master_write_read` over all of a link's fields, lent one by one. The other starts are in `starts`.
+#![tactic(auto)]
+
 ghost use Rattle.std.specs.Prelude.{length as size};
 ghost use Rattle.ending.specs.Call.{master_write_read};
 ghost use Rattle.ending.specs.Link.{link_at};

@@ -1,4 +1,6 @@
 // The limits of the digital filter's cycles, of a transfer's length, and of what a link holds.
+#![tactic(auto)]
+
 ghost use Rattle.std.specs.Prelude.{◌≡◌};
 ghost use Rattle.limits.specs.Limits.{filter_allowed, length_allowed, impossible_at};
 

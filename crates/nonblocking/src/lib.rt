@@ -1,4 +1,6 @@
 // The non-blocking driver: the link, and the two statements that this crate promises. The calls are in the modules.
+#![tactic(auto)]
+
 ghost use Rattle.std.specs.Prelude.{◌≡◌};
 ghost use Rattle.bench_table.specs.BenchTable.{BenchTable};
 ghost use Rattle.ending.specs.EqualEnding.{EqualEnding};
@@ -17,7 +19,7 @@ pub mod slave;
 
 // What a link holds between calls.
 #[repr(C)]
-#[derive(Drop)]
+#[derive(Clone, Copy)]
 pub struct Link {
     pub address: u16,
     // On each start set to 10, on each stop set to 0.
@@ -33,7 +35,7 @@ pub struct Link {
 
 // What a call gives back: the link, and its answer with the words taken and the places logged.
 // The bytes that an answer shows are the first ones of the link's data, as many as its count.
-#[derive(Drop)]
+#[derive(Clone, Copy)]
 pub struct Called {
     pub link: Link,
     pub report: Report,

@@ -1,4 +1,6 @@
 // One byte of a stretch: the word that goes out to TXDR, and the byte that comes in from RXDR.
+#![tactic(auto)]
+
 ghost use Rattle.std.specs.Prelude.{◌≡◌, ◌+◌, get_or};
 ghost use Rattle.fields.specs.Words.{received, sent};
 

@@ -1,5 +1,7 @@
 // The blocking calls that wait: their kinds, the phases that they go through, and what a phase tells without the rest of the call.
 // A phase holds the word that it must remember.
+#![tactic(auto)]
+
 ghost use Rattle.std.specs.Prelude.{◌≡◌};
 ghost use Rattle.phases.specs.Phases.{role};
 
@@ -7,7 +9,7 @@ pub mod kinds;
 pub mod lengths;
 
 // The calls that wait.
-#[derive(Drop)]
+#[derive(Clone, Copy)]
 pub enum Kind {
     Write,
     Read,
@@ -20,7 +22,7 @@ pub enum Kind {
 }
 
 // The accesses before the first wait.
-#[derive(Drop)]
+#[derive(Clone, Copy)]
 pub enum Opening {
     // Reads CR2 until START is clear.
     Start,
@@ -39,7 +41,7 @@ pub enum Opening {
 }
 
 // Why no access follows. A word or room that is missing parks the call, the others end it.
-#[derive(Drop)]
+#[derive(Clone, Copy)]
 pub enum End {
     OutOfWords,
     LogFull,
@@ -52,7 +54,7 @@ pub enum End {
     Addressed(u32),
 }
 
-#[derive(Drop)]
+#[derive(Clone, Copy)]
 pub enum Phase {
     Open(Opening),
     // `busy_wait` reads ISR.
@@ -83,7 +85,7 @@ pub enum Phase {
 }
 
 // What an access does to the count.
-#[derive(Drop)]
+#[derive(Clone, Copy)]
 pub enum Role {
     // A byte goes out or comes in.
     Byte,

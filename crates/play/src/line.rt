@@ -8,6 +8,7 @@ use script::calls::*;
 use script::given::{least, places, words_of};
 use script::parse::parse;
 use script::slots::Slots;
+use std::io::Print;
 use text::tokens::part;
 use text::{Bytes, Text};
 
@@ -37,6 +38,7 @@ fn play_call(
 
 // A line of so many characters, and its outcome, into `out`. One that is too long has no part that is a call.
 pub(crate) fn play_line(
+    rt: &impl Print,
     kept: Kept,
     number: u64,
     line: &Text,
@@ -55,6 +57,7 @@ pub(crate) fn play_line(
     let call = parse(text, words, &mut slots);
     let mut after = play_call(kept, call, text, &slots, words, log, send, recv);
     after.used = add_outcome(
+        rt,
         out,
         after.used,
         number,

@@ -1,5 +1,7 @@
 // Plays a script from standard input through both drivers, and prints the outcome of each line.
 // The gate lays its `stdin`, calls, and its `stdout`, what the original gave for them; with neither it prints nothing.
+#![tactic(auto)]
+
 use crate::line::play_line;
 use nonblocking::Link;
 use playing::Played;
@@ -12,7 +14,7 @@ mod waiting;
 
 // What is kept from line to line, beside the two lent slices, send and recv, of these lengths: what the line came to, with the link, the
 // parked call as seven numbers, and how much of the output is still to be written.
-#[derive(Drop)]
+#[derive(Clone, Copy)]
 struct Kept {
     pub played: Played,
     pub parked: [u64; 7],
@@ -35,25 +37,27 @@ fn at_first() -> Kept {
     }
 }
 
-fn main() {
+fn main(rt: HostRuntime) {
     // The input, a line of it, the words that the line gives, the log, the slices kept, and the output.
-    let mut buffer = io::buffer();
+    let mut stdin = rt.stdin();
+    let mut buffer = [0u8; 4096];
     let mut line = [0u8; 32768];
     let mut words = [0u32; 4096];
     let mut log = [0u32; 65536];
     let mut send = [0u8; 16384];
     let mut recv = [0u8; 16384];
-    let mut out = io::large_buffer();
+    let mut out = [0u8; 65536];
     let mut input = START;
     let mut kept = at_first();
     let mut number: u64 = 1;
     // No script has as many lines.
     while number < 18_446_744_073_709_551_615 {
-        input = next_line(&mut buffer, input, &mut line);
+        input = next_line(&mut stdin, &mut buffer, input, &mut line);
         if input.count == NO_LINE {
             break;
         }
         kept = play_line(
+            &rt,
             kept,
             number,
             &line,
@@ -66,5 +70,5 @@ fn main() {
         );
         number += 1;
     }
-    flush(&out, kept.used);
+    flush(&rt, &out, kept.used);
 }

@@ -12,6 +12,7 @@ use print::lines::add_call;
 use script::calls::*;
 use script::settings::refusal;
 use script::slots::Slots;
+use std::io::Print;
 use text::Bytes;
 
 // A log that a line lends.
@@ -76,6 +77,7 @@ fn link_line(link: Link) -> Line {
 
 // What is shown after a call: a link, or the recv slice.
 fn add_shown(
+    rt: &impl Print,
     out: &mut Buffer,
     used: usize,
     call: Call,
@@ -86,10 +88,10 @@ fn add_shown(
     match call {
         NB_RESET..=NB_SET_ADDRESS => {
             let data = link.data;
-            add_bytes(out, used, link_line(link), &data, 255)
+            add_bytes(rt, out, used, link_line(link), &data, 255)
         }
         BL_READ | BL_WRITE_READ | BL_SLAVE_READ | BL_RESUME => {
-            add_bytes(out, used, begin(b'B'), recv, received)
+            add_bytes(rt, out, used, begin(b'B'), recv, received)
         }
         _ => used,
     }
@@ -97,6 +99,7 @@ fn add_shown(
 
 // The lines of a call: its number, its accesses, its answer, and what is shown after it.
 pub fn add_outcome(
+    rt: &impl Print,
     out: &mut Buffer,
     used: usize,
     number: u64,
@@ -109,8 +112,13 @@ pub fn add_outcome(
     let link = played.link;
     let data = link.data;
     let six = played.six;
-    let used = add(out, used, begin(b'>').number(number, TEN, ALL).byte(b'\n'));
+    let used = add(
+        rt,
+        out,
+        used,
+        begin(b'>').number(number, TEN, ALL).byte(b'\n'),
+    );
     // No answer but of a link shows bytes.
-    let used = add_call(out, used, log, six, data);
-    add_shown(out, used, call, link, recv, received)
+    let used = add_call(rt, out, used, log, six, data);
+    add_shown(rt, out, used, call, link, recv, received)
 }

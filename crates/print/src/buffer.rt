@@ -2,36 +2,37 @@
 ghost use Rattle.std.specs.Prelude.{◌<◌};
 
 use crate::line::{Line, digit};
-use libc::STDOUT_FILENO;
+use std::io::Print;
 
 pub type Buffer = [u8; 65536];
 
 // The first bytes to standard output.
-fn write_first(bytes: &[u8], count: usize) {
+fn write_first(rt: &impl Print, bytes: &[u8], count: usize) {
     if count <= bytes.len() {
-        io::write_all(STDOUT_FILENO, &bytes[0..count]);
+        // A reader that is gone is told nothing more.
+        let _ = rt.write_all(&bytes[0..count]);
     }
 }
 
 // Writes what the buffer holds.
-pub fn flush(out: &Buffer, used: usize) {
-    write_first(out, used);
+pub fn flush(rt: &impl Print, out: &Buffer, used: usize) {
+    write_first(rt, out, used);
 }
 
 // Where two bytes can stand: a buffer that has no room for them is written first.
-fn room(out: &Buffer, used: usize) -> usize
+fn room(rt: &impl Print, out: &Buffer, used: usize) -> usize
     ensures { result < 65535 }
 {
     if used < 65535 {
         return used;
     }
-    flush(out, used);
+    flush(rt, out, used);
     0
 }
 
 // A byte, as it is or as two hex digits.
-fn put(out: &mut Buffer, used: usize, byte: u8, in_hex: bool) -> usize {
-    let at = room(out, used);
+fn put(rt: &impl Print, out: &mut Buffer, used: usize, byte: u8, in_hex: bool) -> usize {
+    let at = room(rt, out, used);
     if in_hex {
         let n = byte as u64;
         out[at] = digit(n / 16);
@@ -43,23 +44,30 @@ fn put(out: &mut Buffer, used: usize, byte: u8, in_hex: bool) -> usize {
 }
 
 // The first bytes of a slice.
-fn copy(out: &mut Buffer, used: usize, bytes: &[u8], count: usize, in_hex: bool) -> usize {
+fn copy(
+    rt: &impl Print,
+    out: &mut Buffer,
+    used: usize,
+    bytes: &[u8],
+    count: usize,
+    in_hex: bool,
+) -> usize {
     let mut used = used;
     let mut i: usize = 0;
     while i < count {
         if bytes.len() <= i {
             return used;
         }
-        used = put(out, used, bytes[i], in_hex);
+        used = put(rt, out, used, bytes[i], in_hex);
         i += 1;
     }
     used
 }
 
 // A line with its newline, or the start of one.
-pub fn add(out: &mut Buffer, used: usize, line: Line) -> usize {
+pub fn add(rt: &impl Print, out: &mut Buffer, used: usize, line: Line) -> usize {
     let bytes = line.bytes;
-    copy(out, used, &bytes, line.used, false)
+    copy(rt, out, used, &bytes, line.used, false)
 }
 
 // The number of bytes of a line that has none.
@@ -79,13 +87,20 @@ fn before(line: Line, count: usize) -> Line {
 }
 
 // A line that ends with the first bytes of a slice, as hex pairs.
-pub fn add_bytes(out: &mut Buffer, used: usize, line: Line, bytes: &[u8], count: usize) -> usize {
-    let used = add(out, used, before(line, count));
+pub fn add_bytes(
+    rt: &impl Print,
+    out: &mut Buffer,
+    used: usize,
+    line: Line,
+    bytes: &[u8],
+    count: usize,
+) -> usize {
+    let used = add(rt, out, used, before(line, count));
     match count {
         NO_BYTES | 0 => used,
         _ => {
-            let used = copy(out, used, bytes, count, true);
-            put(out, used, b'\n', false)
+            let used = copy(rt, out, used, bytes, count, true);
+            put(rt, out, used, b'\n', false)
         }
     }
 }

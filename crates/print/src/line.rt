@@ -1,7 +1,7 @@
 // A short line, or the start of one. Each number comes after a space; hex digits are capitals.
 
 // The longest one is that of a link, but for its bytes: 87.
-#[derive(Drop)]
+#[derive(Clone, Copy)]
 pub struct Line {
     pub bytes: [u8; 96],
     pub used: usize,

@@ -1,6 +1,7 @@
 // Accesses and answers as lines.
 use crate::buffer::{Buffer, NO_BYTES, add, add_bytes};
 use crate::line::*;
+use std::io::Print;
 
 fn word_at(log: &[u32], place: usize) -> u32 {
     if place < log.len() {
@@ -19,11 +20,12 @@ fn access(number: u32, word: u32) -> Line {
 }
 
 // The accesses of a log's first places.
-fn accesses(out: &mut Buffer, used: usize, log: &[u32], logged: usize) -> usize {
+fn accesses(rt: &impl Print, out: &mut Buffer, used: usize, log: &[u32], logged: usize) -> usize {
     let mut used = used;
     let mut i: usize = 0;
     while i < logged / 2 {
         used = add(
+            rt,
             out,
             used,
             access(word_at(log, 2 * i), word_at(log, 2 * i + 1)),
@@ -87,6 +89,7 @@ fn shown(number: u64, first: u64, third: u64) -> usize {
 // What a call comes to: its accesses, and its answer by six numbers: its own number or letter, the words taken, the places logged, and its
 // values. The bytes that it shows are the first ones of a link's data.
 pub fn add_call(
+    rt: &impl Print,
     out: &mut Buffer,
     used: usize,
     log: &[u32],
@@ -97,6 +100,6 @@ pub fn add_call(
     let first = six[3];
     let count = shown(number, first, six[5]);
     let line = told(number, first, six[4]);
-    let used = accesses(out, used, log, six[2] as usize);
-    add_bytes(out, used, line, &data, count)
+    let used = accesses(rt, out, used, log, six[2] as usize);
+    add_bytes(rt, out, used, line, &data, count)
 }

@@ -4,7 +4,7 @@ ghost use Rattle.fields.specs.Words.{configured, interrupts};
 
 use fields::Field;
 
-#[derive(Drop)]
+#[derive(Clone, Copy)]
 pub struct Cr1;
 
 impl Cr1 {

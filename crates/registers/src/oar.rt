@@ -6,7 +6,7 @@ ghost use Rattle.config.specs.Config.{mask_number};
 use config::SlaveAddressMask;
 use fields::Field;
 
-#[derive(Drop)]
+#[derive(Clone, Copy)]
 pub struct Oar1;
 
 impl Oar1 {
@@ -50,7 +50,7 @@ impl Oar1 {
     }
 }
 
-#[derive(Drop)]
+#[derive(Clone, Copy)]
 pub struct Oar2;
 
 impl Oar2 {

@@ -1,5 +1,5 @@
 // TIMINGR, whose fields are `Config`'s constants.
-#[derive(Drop)]
+#[derive(Clone, Copy)]
 pub struct Timingr;
 
 impl Timingr {

@@ -1,4 +1,6 @@
 // Scripts: the call that a line is, with its numbers, its words and its configuration.
+#![tactic(auto)]
+
 pub mod calls;
 pub mod given;
 mod items;

@@ -1,4 +1,6 @@
 // A call's words and the log of its accesses, in code: a call that never waits is settled, or refused whole.
+#![tactic(auto)]
+
 ghost use Rattle.std.specs.Prelude.{◌≡◌, length, get_or};
 ghost use Rattle.access.specs.Access.{Logged, Reported, settle};
 ghost use Rattle.answers.specs.Answers.{said};

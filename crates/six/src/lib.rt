@@ -1,4 +1,6 @@
 // The six numbers of an answer, as they are written for C: its own number, the words taken, the places logged, and its values.
+#![tactic(auto)]
+
 ghost use Rattle.std.specs.Prelude.{◌≡◌, [], ◌∷◌};
 
 pub fn fill(

@@ -1,4 +1,6 @@
 // The lent slices of a blocking call: the byte that goes out, and the words that are left.
+#![tactic(auto)]
+
 ghost use Rattle.std.specs.Prelude.{◌≡◌, min, get_or};
 
 // The byte to send, 0x21 after the last.

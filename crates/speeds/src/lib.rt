@@ -1,9 +1,11 @@
 // What a speed comes with.
+#![tactic(auto)]
+
 ghost use Rattle.std.specs.Prelude.{◌≡◌, ◌<◌, ◌≤◌};
 ghost use Rattle.speeds.specs.Speeds.{mode_of};
 
 // The prescaler, the least quotient, how much shorter SCLH is than SCLL, and the delays.
-#[derive(Drop)]
+#[derive(Clone, Copy)]
 pub struct Mode {
     pub presc: u32,
     pub least: u32,

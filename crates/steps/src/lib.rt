@@ -1,4 +1,6 @@
 // The steps of a check, one for each flag. A step takes only what it changes; where its accesses are refused it changes nothing.
+#![tactic(auto)]
+
 ghost use Rattle.std.specs.Prelude.{◌≡◌, ℕ, List, [], ◌∷◌, length, get_or};
 ghost use Rattle.access.specs.Access.{settle, Reported};
 ghost use Rattle.answers.specs.Answers.{said};

@@ -1,11 +1,13 @@
 // What follows plainly in a run: bytes that go out or come in one after the other, on plain numbers. And how far a run is.
+#![tactic(auto)]
+
 use parked::{End, Parked};
 
 pub mod polls;
 pub mod stretch;
 
 // Whether the wait goes on, the wanted flag is found, or no access follows.
-#[derive(Drop)]
+#[derive(Clone, Copy)]
 pub enum Turn {
     Again,
     Found,
@@ -13,7 +15,7 @@ pub enum Turn {
 }
 
 // How far a run is.
-#[derive(Drop)]
+#[derive(Clone, Copy)]
 pub struct Progress {
     pub turn: Turn,
     pub parked: Parked,
@@ -22,7 +24,7 @@ pub struct Progress {
 }
 
 // How far a call that waits is: so many bytes moved, words taken, and places of the log filled.
-#[derive(Drop)]
+#[derive(Clone, Copy)]
 pub struct Moved {
     pub count: usize,
     pub taken: usize,

@@ -8,7 +8,7 @@ use flags::Isr;
 use wanted::{Found, Wanted};
 
 // What a word of ISR brought: a byte, nothing yet, or something else, which a stretch leaves alone.
-#[derive(Drop)]
+#[derive(Clone, Copy)]
 pub enum Brought {
     Byte,
     Nothing,

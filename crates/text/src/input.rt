@@ -1,9 +1,10 @@
-// Lines of standard input.
+// Lines of an input.
 use crate::Text;
+use std::io::Read;
 
 // A place in the input: the byte of the buffer that comes next, how many bytes the buffer holds, and of the line that was
 // read last the number of its characters.
-#[derive(Drop)]
+#[derive(Clone, Copy)]
 pub struct Input {
     pub at: usize,
     pub end: usize,
@@ -23,14 +24,18 @@ const TOO_LONG: usize = 32_769;
 pub const NO_LINE: usize = 32_770;
 
 // The place where the next byte is, once the buffer is filled again where it has no byte left.
-fn ready(buffer: &mut [u8; 4096], input: Input) -> Input {
+fn ready(reader: &mut impl Read, buffer: &mut [u8; 4096], input: Input) -> Input {
     if input.at < input.end {
         return input;
     }
-    let got = libc::read(0, buffer);
+    // What cannot be read ends the input.
+    let end = match reader.read(buffer) {
+        Ok(count) => count,
+        Err(_) => 0,
+    };
     Input {
         at: 0,
-        end: io::count(got, buffer),
+        end,
         count: input.count,
     }
 }
@@ -67,7 +72,12 @@ fn ended(line: &Text, input: Input) -> Input {
 }
 
 // The next line, without the newline. The rest of one that is too long is passed over.
-pub fn next_line(buffer: &mut [u8; 4096], input: Input, line: &mut Text) -> Input {
+pub fn next_line(
+    reader: &mut impl Read,
+    buffer: &mut [u8; 4096],
+    input: Input,
+    line: &mut Text,
+) -> Input {
     let mut next = Input {
         at: input.at,
         end: input.end,
@@ -76,7 +86,7 @@ pub fn next_line(buffer: &mut [u8; 4096], input: Input, line: &mut Text) -> Inpu
     // No line is as long as this.
     let mut turns: u64 = 18_446_744_073_709_551_615;
     while 0 < turns {
-        next = ready(buffer, next);
+        next = ready(reader, buffer, next);
         if next.end == 0 {
             break;
         }

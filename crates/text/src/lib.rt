@@ -1,4 +1,6 @@
 // The text that the programs read: the lines of standard input, their tokens, numbers and BYTES.
+#![tactic(auto)]
+
 pub mod bytes;
 pub mod input;
 pub mod numbers;
@@ -10,7 +12,7 @@ pub type Text = [u8; 32768];
 pub type Bytes = [u8; 16384];
 
 // What a token is read as.
-#[derive(Drop)]
+#[derive(Clone, Copy)]
 pub enum Number {
     None,
     Value(u64),

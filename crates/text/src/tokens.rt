@@ -31,7 +31,7 @@ pub fn is_byte(token: &[u8], byte: u8) -> bool {
 }
 
 // A token beside names: the number of the name that it is compared with, how many of the bytes agree, and whether it is that name.
-#[derive(Drop)]
+#[derive(Clone, Copy)]
 struct Beside {
     pub name: usize,
     pub agree: usize,

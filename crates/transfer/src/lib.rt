@@ -1,4 +1,6 @@
 // What a transfer starts from, what it sends, and what it shows at its end.
+#![tactic(auto)]
+
 ghost use Rattle.std.specs.Prelude.{◌≡◌, cond, [], ◌∷◌, ltb, get_or};
 ghost use Rattle.fields.specs.Words.{sent};
 ghost use Rattle.flags.specs.Flags.{direction_of};

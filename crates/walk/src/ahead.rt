@@ -1,11 +1,12 @@
 // The words that are read ahead.
+use std::io::Read;
 use text::input::{Input, next_line};
 use text::numbers::number;
 use text::tokens::part;
 use text::{Number, Text};
 
 // At most three: a call takes no more. `open` while no other line has come; `input` is where the next line is.
-#[derive(Drop)]
+#[derive(Clone, Copy)]
 pub(crate) struct Ahead {
     pub words: [u32; 3],
     pub count: usize,
@@ -33,10 +34,10 @@ fn with_line(ahead: Ahead, line: &Text, input: Input) -> Ahead {
 }
 
 // One word more, where there are not yet three and no other line has come.
-fn more(ahead: Ahead, buffer: &mut [u8; 4096], line: &mut Text) -> Ahead {
+fn more(reader: &mut impl Read, ahead: Ahead, buffer: &mut [u8; 4096], line: &mut Text) -> Ahead {
     if ahead.count < 3 {
         if ahead.open {
-            let input = next_line(buffer, ahead.input, line);
+            let input = next_line(reader, buffer, ahead.input, line);
             return with_line(ahead, line, input);
         }
     }
@@ -44,10 +45,15 @@ fn more(ahead: Ahead, buffer: &mut [u8; 4096], line: &mut Text) -> Ahead {
 }
 
 // Reads ahead until there are three words or another line has come.
-pub(crate) fn fill(ahead: Ahead, buffer: &mut [u8; 4096], line: &mut Text) -> Ahead {
-    let mut next = more(ahead, buffer, line);
-    next = more(next, buffer, line);
-    more(next, buffer, line)
+pub(crate) fn fill(
+    reader: &mut impl Read,
+    ahead: Ahead,
+    buffer: &mut [u8; 4096],
+    line: &mut Text,
+) -> Ahead {
+    let mut next = more(reader, ahead, buffer, line);
+    next = more(reader, next, buffer, line);
+    more(reader, next, buffer, line)
 }
 
 // What is left after a call took its words.

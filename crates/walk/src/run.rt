@@ -6,10 +6,11 @@ use flat::out::put;
 use nonblocking::{Called, Link};
 use print::buffer::{Buffer, flush};
 use print::lines::add_call;
+use std::io::{Print, Read};
 use text::input::Input;
 
 // What a call comes to, once it is printed: the link after it, the words that it took, whether it lacked one, and the output that is still to be written.
-#[derive(Drop)]
+#[derive(Clone, Copy)]
 struct Walked {
     pub link: Link,
     pub taken: usize,
@@ -17,7 +18,13 @@ struct Walked {
     pub used: usize,
 }
 
-fn printed(called: Called, log: &[u32; 10], out: &mut Buffer, used: usize) -> Walked {
+fn printed(
+    rt: &impl Print,
+    called: Called,
+    log: &[u32; 10],
+    out: &mut Buffer,
+    used: usize,
+) -> Walked {
     let link = called.link;
     let data = link.data;
     let report = called.report;
@@ -28,7 +35,7 @@ fn printed(called: Called, log: &[u32; 10], out: &mut Buffer, used: usize) -> Wa
         link,
         taken: report.taken,
         lacking: answer.number() == 9,
-        used: add_call(out, used, log, six, data),
+        used: add_call(rt, out, used, log, six, data),
     }
 }
 
@@ -49,6 +56,7 @@ fn call(link: Link, is_first: bool, words: &[u32], log: &mut [u32; 10]) -> Calle
 
 // A call over the words read ahead.
 fn step(
+    rt: &impl Print,
     link: Link,
     is_first: bool,
     words: [u32; 3],
@@ -59,13 +67,18 @@ fn step(
     let mut log = [0u32; 10];
     let count = at_most_three(count);
     let called = call(link, is_first, &words[0..count], &mut log);
-    printed(called, &log, out, used)
+    printed(rt, called, &log, out, used)
 }
 
 // One walk, from a place of the input on. Answers the place after it.
-pub(crate) fn run(buffer: &mut [u8; 4096], input: Input) -> Input {
+pub(crate) fn run(
+    rt: &impl Print,
+    reader: &mut impl Read,
+    buffer: &mut [u8; 4096],
+    input: Input,
+) -> Input {
     let mut line = [0u8; 32768];
-    let mut out = io::large_buffer();
+    let mut out = [0u8; 65536];
     let mut ahead = Ahead {
         words: [0u32; 3],
         count: 0,
@@ -81,7 +94,7 @@ pub(crate) fn run(buffer: &mut [u8; 4096], input: Input) -> Input {
     let mut calls: u64 = 0;
     // No input is as long as this.
     while calls < 18_446_744_073_709_551_615 {
-        ahead = fill(without(ahead, walked.taken), buffer, &mut line);
+        ahead = fill(reader, without(ahead, walked.taken), buffer, &mut line);
         if ahead.count == 0 {
             if 0 < calls {
                 break;
@@ -89,6 +102,7 @@ pub(crate) fn run(buffer: &mut [u8; 4096], input: Input) -> Input {
         }
         let words = ahead.words;
         walked = step(
+            rt,
             walked.link,
             calls == 0,
             words,
@@ -101,6 +115,6 @@ pub(crate) fn run(buffer: &mut [u8; 4096], input: Input) -> Input {
         }
         calls += 1;
     }
-    flush(&out, walked.used);
+    flush(rt, &out, walked.used);
     ahead.input
 }

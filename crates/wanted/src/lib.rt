@@ -1,4 +1,6 @@
 // A word of ISR in a `busy_wait`: the wanted flag, else the first of the others.
+#![tactic(auto)]
+
 ghost use Rattle.std.specs.Prelude.{◌≡◌};
 ghost use Rattle.fields.specs.Layout.{◌has◌};
 ghost use Rattle.wanted.specs.Found.{wanted_name, found_in};
@@ -6,7 +8,7 @@ ghost use Rattle.wanted.specs.Found.{wanted_name, found_in};
 use flags::Isr;
 
 // The flag that a `busy_wait` waits for.
-#[derive(Drop)]
+#[derive(Clone, Copy)]
 pub enum Wanted {
     Txis,
     Rxne,
@@ -14,7 +16,7 @@ pub enum Wanted {
 }
 
 // What a `busy_wait` finds in an ISR word.
-#[derive(Drop)]
+#[derive(Clone, Copy)]
 pub enum Found {
     Wanted,
     Berr,

@@ -1,0 +1,24 @@
+-- `blocking::run::begin` meets its contract.
+use mathlib.Core.Path.{◌≡◌, sym, ◌∙◌}
+use mathlib.Core.Path.{refl}
+use lib.ListN.{length}
+use Prim.Native.Nat.{◌/◌}
+use Rattle.blocking.proofs.Wholes.{call_good, call_bad}
+use Rattle.runs.proofs.OneAccess.{outcome_right}
+use Rattle.runs.proofs.Sound.{right_begun}
+use Rattle.parked.specs.Refusals.{begun}
+use borrow.Author.Rules.{rules}
+use Rattle.blocking.proofs.run.begin.Goals as goal
+
+pub returns-then-lengths : goal.returns-then-lengths
+returns-then-lengths c = let good = sym c.lengths.ensures ∙ c.if-lengths.true in
+    rw (
+      call_good c.args.kind c.args.address c.args.send.now c.args.receive.now c.args.words.now (length c.args.log.now / 2) good,
+      outcome_right c.args.send.now (begun c.args.kind c.args.address (length c.args.send.now) (length c.args.receive.now)) c.args.receive.now c.args.words.now (length c.args.log.now / 2) (right_begun c.args.kind c.args.address (length c.args.send.now) (length c.args.receive.now) good),
+      ← c.opening.ensures,
+    )
+    c.course.ensures
+
+pub returns : goal.returns
+returns c = rw (call_bad c.args.kind c.args.address c.args.send.now c.args.receive.now c.args.words.now (length c.args.log.now / 2) (sym c.lengths.ensures ∙ c.if-lengths.false), c.refused.ensures)
+    (record { answer = refl; parked = refl; taken = refl; logged = refl; entries = refl; buffer = refl })

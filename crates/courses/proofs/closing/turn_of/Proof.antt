@@ -1,7 +1,0 @@
--- `courses::closing::turn_of` meets its contract.
-use borrow.Author.Rules.{rules}
-use Rattle.courses.proofs.closing.turn_of.Statement.{statement}
-use Rattle.courses.proofs.closing.turn_of.Tie as tie
-
-pub turn_of_spec : {M : Type 1} → statement M
-turn_of_spec = tie.close (tie.spec (λ c. search rules) (λ c. search rules) (λ c. search rules) (λ c. search rules) (λ c. rw c.enum_told.given.1) (λ c. rw c.enum-told2.given.1) (λ c. rw c.enum-told3.given.1) (λ c. rw c.enum-told4.given.1))

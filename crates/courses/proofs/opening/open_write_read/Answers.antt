@@ -1,0 +1,6 @@
+-- `courses::opening::open_write_read` meets its contract.
+use borrow.Author.Rules.{rules}
+use Rattle.courses.proofs.opening.open_write_read.Goals as goal
+
+pub returns : goal.returns
+returns c = rw (c.started-setup.ensures, c.sadd8.ensures, c.flushed.ensures) at c.put_at.ensures

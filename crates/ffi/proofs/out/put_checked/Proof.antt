@@ -1,7 +1,0 @@
--- `ffi::out::put_checked` meets its contract: each answer is told.
-use borrow.Author.Rules.{rules}
-use Rattle.ffi.proofs.out.put_checked.Statement.{statement}
-use Rattle.ffi.proofs.out.put_checked.Tie as tie
-
-pub put-checked-spec : {M : Type 1} → statement M
-put-checked-spec = tie.close (tie.spec (λ c. search rules) (λ c. search rules) (λ c. search rules) (λ c. search rules) (λ c. search rules) (λ c. search rules) (λ c. search rules) (λ c. search rules) (λ c. search rules) (λ c. search rules) (λ c. search rules) (λ c. search rules) (λ c. search rules) (λ c. search rules) (λ c κs. search rules) (λ c. rw c.before.enum_told.given.1) (λ c. rw c.before.enum-told2.given.1) (λ c. rw c.before.enum-told3.given.1) (λ c. rw c.before.enum-told4.given.1) (λ c. rw c.before.before.answer.given.1) (λ c. rw c.before.enum-told5.given.1) (λ c. rw c.before.enum-told6.given.1) (λ c. rw c.before.enum-told7.given.1) (λ c. rw c.before.before.answer2.given.1) (λ c. rw c.before.before.answer3.given.1) (λ c. search rules))

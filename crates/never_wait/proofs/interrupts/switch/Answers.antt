@@ -1,0 +1,6 @@
+-- `never_wait::interrupts::switch` meets its contract.
+use borrow.Author.Rules.{rules}
+use Rattle.never_wait.proofs.interrupts.switch.Goals as goal
+
+pub returns : goal.returns
+returns c = rw (← c.word_at-cr1.ensures, ← c.switched.ensures) c.settle.ensures

@@ -1,0 +1,8 @@
+-- `nonblocking::Link::listen` meets its contract.
+use Rattle.ending.specs.Outcome.{outcome}
+use borrow.Author.Rules.{rules}
+use Rattle.nonblocking.proofs.Link.listen.Goals as goal
+
+pub returns : goal.returns
+unfolding outcome
+returns c = c.interrupts.ensures

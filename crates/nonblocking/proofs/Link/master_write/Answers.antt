@@ -1,0 +1,8 @@
+-- `nonblocking::Link::master_write` meets its contract.
+use Rattle.ending.specs.Outcome.{outcome}
+use borrow.Author.Rules.{rules}
+use Rattle.nonblocking.proofs.Link.master_write.Goals as goal
+
+pub returns : goal.returns
+unfolding outcome
+returns c = c.write.ensures

@@ -1,0 +1,6 @@
+-- `steps::answered` meets its contract.
+use borrow.Author.Rules.{rules}
+use Rattle.steps.proofs.answered.Goals as goal
+
+pub returns : goal.returns
+returns c = rw c.word_at.ensures at c.settle.ensures

@@ -1,0 +1,6 @@
+-- `steps::pending` meets its contract.
+use borrow.Author.Rules.{rules}
+use Rattle.steps.proofs.pending.Goals as goal
+
+pub returns : goal.returns
+returns c = c.answered.ensures
