@@ -4,6 +4,6 @@ use Rattle.std.specs.Prelude.{◌≡◌}
 use mathlib.Core.List.{Memᴰ}
 use Rattle.bench_table.specs.Table.{Row, gives, table}
 
--- `List.Memᴰ row table`: the row stands in the table
+-- `Memᴰ row table`: the row stands in the table
 abbrev pub BenchTable : Type 0
 BenchTable = (row : Row) → Memᴰ row table → gives row.case ≡ row.must

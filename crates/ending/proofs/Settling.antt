@@ -10,7 +10,6 @@ use borrow.Author.Tests.{lt-leb}
 use Rattle.access.specs.declared.Report.{Report}
 use Rattle.answers.specs.declared.Answer.TheVariants.{OutOfWords}
 use Rattle.access.specs.Access.{reads, entries, Settled, refusal, settle as settle_accesses, Reported}
-use Rattle.answers.specs.Answers.{Said}
 use Rattle.ending.specs.Link.{Link}
 use Rattle.ending.specs.Plan.{Plan}
 use Rattle.ending.specs.Outcome.{settle, count_shown, Matches}

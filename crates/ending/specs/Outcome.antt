@@ -1,5 +1,5 @@
 -- The whole outcome of a step: refusals 12, 9 and 10, or the plan.
-use Rattle.std.specs.Prelude.{ℕ, ◌≡◌, Bool, true, false, cond, List, [], ◌∷◌, length, get_or, take, leb, eqb}
+use Rattle.std.specs.Prelude.{ℕ, ◌≡◌, Bool, true, false, cond, List, [], length, get_or, take, leb, eqb}
 use Rattle.access.specs.declared.Report.{Report}
 use Rattle.answers.specs.declared.Answer.TheVariants.{ImpossibleLink}
 use Rattle.access.specs.Access.{Access, reads, entries, over}

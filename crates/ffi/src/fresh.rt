@@ -44,8 +44,8 @@ fn construct_fields(
     log: &mut [u32],
 ) -> Report
     ensures { Renewed (config_of config.now) clock words.now log.old result
-        (record { address = address.entry.now; watchdog = watchdog.old; index = index.old; length = length.old; errors = errors.old; length_write_read = length_write_read.old; «data» = «data».old })
-        (record { address = address.exit.now; watchdog = watchdog.new; index = index.new; length = length.new; errors = errors.new; length_write_read = length_write_read.new; «data» = «data».new }) log.new }
+        (record { address = address.old; watchdog = watchdog.old; index = index.old; length = length.old; errors = errors.old; length_write_read = length_write_read.old; «data» = «data».old })
+        (record { address = address.new; watchdog = watchdog.new; index = index.new; length = length.new; errors = errors.new; length_write_read = length_write_read.new; «data» = «data».new }) log.new }
 {
     let called = Link::i2c1(config_of(config), clock, words, log);
     let report = called.report;

@@ -2,7 +2,7 @@
 -- ADD10, stands in few contracts.
 use Prim.Native.Nat.{ℕ}
 use mathlib.Core.Path.{◌≡◌, refl}
-use mathlib.Core.List.{List, [], ◌∷◌, map}
+use mathlib.Core.List.{[], ◌∷◌, map}
 use Rattle.fields.specs.Layout.{Name, place}
 use Rattle.fields.specs.Layout.{PE, TXIE, RXIE, ADDRIE, NACKIE, STOPIE, TCIE, ERRIE, DNF, ANFOFF, SBC}
 use Rattle.fields.specs.Layout.{SADD, RD-WRN, ADD10, START, STOP, NACK, NBYTES, RELOAD, AUTOEND}

@@ -1,5 +1,5 @@
 -- The register words that the drivers form. A `modify` puts fields into the word read; a `write` starts from 0, for ISR from 1.
-use Rattle.std.specs.Prelude.{ℕ, ◌*◌, ◌%◌, Bool, true, false, not}
+use Rattle.std.specs.Prelude.{ℕ, ◌*◌, ◌%◌, Bool, not}
 use Rattle.fields.specs.Field.{digit}
 use Rattle.fields.specs.Layout.{PE, TXIE, RXIE, ADDRIE, NACKIE, STOPIE, TCIE, ERRIE, DNF, ANFOFF, SBC}
 use Rattle.fields.specs.Layout.{SADD, RD-WRN, START, STOP, NACK, NBYTES, RELOAD, AUTOEND}

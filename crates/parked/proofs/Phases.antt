@@ -4,7 +4,6 @@ use mathlib.Core.Path.{◌≡◌, ap}
 use mathlib.Core.Bool.{cond}
 use Rattle.phases.specs.declared.Phase.{Phase}
 use Rattle.phases.specs.declared.Phase.TheVariants.{Wait, Transfer}
-use Rattle.parked.specs.declared.Next.{Next}
 use Rattle.parked.specs.declared.Parked.{Parked}
 use Rattle.wanted.specs.Found.{found_in}
 use Rattle.parked.specs.Wants.{more, wants, wants_at}

@@ -1,5 +1,5 @@
 -- The access that a parked call wants next, by the first number of its log entry.
-use Rattle.std.specs.Prelude.{ℕ, ◌+◌, ◌*◌, ◌%◌, Bool, true, false, cond, ltb}
+use Rattle.std.specs.Prelude.{ℕ, ◌+◌, Bool, true, false, cond, ltb}
 use Rattle.fields.specs.Layout.{Register, CR2, ISR, ICR, RXDR, TXDR, offset, BERR, ARLO, NACKF, STOPF, ADDR}
 use Rattle.fields.specs.Words.{started, refused, sadd8, flushed, cleared, sent}
 use Rattle.phases.specs.declared.Opening.{Opening}

@@ -1,10 +1,10 @@
 -- What tells the waiting calls apart. `ReadBack` is a `write_read` from its second START on.
-use Rattle.std.specs.Prelude.{ℕ, ◌%◌, Bool, true, false, cond}
+use Rattle.std.specs.Prelude.{ℕ, Bool, true, false, cond}
 use Rattle.fields.specs.Words.{started, sized}
 use Rattle.phases.specs.declared.Kind.{Kind}
 use Rattle.phases.specs.declared.Kind.TheVariants.{Write, Read, WriteRead, ReadBack, SlaveWrite, SlaveRead, SlaveWaitAddressed}
 use Rattle.phases.specs.declared.Opening.{Opening}
-use Rattle.phases.specs.declared.Opening.TheVariants.{Start, Drain, Modify, Setup, Flush, Release, Probe, Drop}
+use Rattle.phases.specs.declared.Opening.TheVariants.{Start, Drain, Modify, Setup, Flush, Release, Probe}
 use Rattle.phases.specs.declared.Phase.{Phase}
 use Rattle.phases.specs.declared.Phase.TheVariants.{Open, Wait, Listen}
 

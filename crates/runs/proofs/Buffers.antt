@@ -1,6 +1,6 @@
 -- The buffer law.
 use Prim.Native.Nat.{ℕ, zero, suc, ◌+◌, ◌≤◌, zero-le}
-use mathlib.Core.Path.{◌≡◌, refl, sym, ap, ap₂, ◌∙◌, subst}
+use mathlib.Core.Path.{◌≡◌, refl, sym, ap, ◌∙◌, subst}
 use mathlib.Core.Bool.{Bool, true, false, cond}
 use mathlib.Core.List.{List, [], ◌∷◌}
 use native.Mathlib.Nat.{add-zero}
@@ -27,7 +27,7 @@ use Rattle.parked.specs.Wants.{span, more, wants_opening, wants_byte, wants_at, 
 use Rattle.parked.specs.After.{whole, addr_answer, stop_answer, answer, turns_as, moves_as, turns, moves, after}
 use Rattle.phases.specs.Phases.{role}
 use Rattle.parked.specs.Refusals.{wrong}
-use Rattle.runs.specs.Run.{Outcome, stopped, kept, step, full, next, runs, outcome}
+use Rattle.runs.specs.Run.{Outcome, kept, step, full, next, runs, outcome}
 use Rattle.runs.specs.BufferLaw.{hearing, heard_in, heard, place, BufferLaw}
 use Rattle.runs.proofs.OneAccess.{outcome_wrong, outcome_right}
 use Rattle.runs.proofs.Sound.{Sound, sound_of, kept_run}

@@ -10,13 +10,12 @@ use lib.ListN.{length, drop}
 use Rattle.answers.specs.Answers.{Said, says}
 use Rattle.phases.specs.declared.End.{End}
 use Rattle.phases.specs.declared.End.TheVariants.{BadLength}
-use Rattle.phases.specs.declared.Opening.{Opening}
 use Rattle.phases.specs.declared.Phase.{Phase}
 use Rattle.phases.specs.declared.Phase.TheVariants.{Open, Wait, Transfer, Restart, Stretched, Refuse, ClearBerr, ClearArlo, ClearNackf, ClearStopf, FlushTxis, FlushDummy, FlushTxe, FlushEmpty, Listen, Code, Ended}
 use Rattle.parked.specs.declared.Next.{Next}
 use Rattle.parked.specs.declared.Next.TheVariants.{Read, Write, Over}
 use Rattle.parked.specs.declared.Parked.{Parked}
-use Rattle.parked.specs.After.{answer, after}
+use Rattle.parked.specs.After.{after}
 use Rattle.phases.specs.Phases.{role}
 use Rattle.parked.specs.Refusals.{begun, is_nothing, ended, wrong}
 use Rattle.phases.specs.declared.Kind.{Kind}
@@ -24,9 +23,9 @@ use Rattle.phases.specs.Lengths.{lengths}
 use Rattle.runs.specs.Run.{Outcome, stopped, joined, kept, step, full, next, runs, outcome, called}
 use Rattle.runs.specs.CutLaw.{Cut, accesses, unless_ended, cut_runs, all_words, Spare, CutLaw}
 use Rattle.parked.proofs.Phases.{wants_at_lem}
-use Rattle.runs.proofs.OneAccess.{joined-none, run_over, run_out, full_read, full_write, outcome_wrong, outcome_right}
+use Rattle.runs.proofs.OneAccess.{run_over, run_out, full_read, full_write, outcome_wrong, outcome_right}
 use Rattle.runs.proofs.Joins.{cut}
-use Rattle.runs.proofs.Sound.{Sound, Kept, kept_run, right, sound_of}
+use Rattle.runs.proofs.Sound.{Sound, kept_run, right, sound_of}
 
 some : (w : ℕ) (ws : List ℕ) → length (w ∷ ws) ≡ 0 → ⊥
 some w ws e = omega arith

@@ -9,7 +9,7 @@ use Rattle.flags.specs.Flags.{direction_of}
 use Rattle.wanted.specs.Found.{found_in}
 use Rattle.answers.specs.Answers.{Said, says}
 use Rattle.phases.specs.declared.Kind.{Kind}
-use Rattle.phases.specs.declared.Kind.TheVariants.{Write, Read, WriteRead, SlaveWrite, SlaveRead, SlaveWaitAddressed}
+use Rattle.phases.specs.declared.Kind.TheVariants.{Write, Read, WriteRead, SlaveWrite, SlaveWaitAddressed}
 use Rattle.phases.specs.declared.Opening.TheVariants.{Setup}
 use Rattle.phases.specs.declared.Phase.{Phase}
 use Rattle.phases.specs.declared.Phase.TheVariants.{Open, Wait, Ended}

@@ -6,7 +6,7 @@ use mathlib.Core.Bool.{Bool, true, false, cond}
 use mathlib.Core.List.{List}
 use lib.ListN.{get_or}
 use Rattle.wanted.specs.declared.Wanted.{Wanted}
-use Rattle.wanted.specs.declared.Wanted.TheVariants.{Txis, Rxne, Tc}
+use Rattle.wanted.specs.declared.Wanted.TheVariants.{Txis, Rxne}
 use Rattle.wanted.specs.declared.Found.TheVariants.{Wanted as Met}
 use Rattle.fields.specs.Layout.{ISR, RXDR, TXDR, offset, ◌has◌}
 use Rattle.fields.specs.Words.{sent}

@@ -14,7 +14,7 @@ use Rattle.phases.specs.declared.Kind.{Kind}
 use Rattle.phases.specs.Lengths.{lengths}
 use Rattle.runs.specs.declared.Ran.{Ran}
 use Rattle.runs.specs.Run.{Outcome, joined, outcome, called, resumed, Whole}
-use Rattle.runs.specs.CutLaw.{Cut, accesses, unless_ended, cut_runs, all_words, CutLaw}
+use Rattle.runs.specs.CutLaw.{accesses, unless_ended, cut_runs, all_words, CutLaw}
 use Rattle.runs.specs.BufferLaw.{heard, place, BufferLaw}
 
 -- the answer, the parked call, the words taken and the places logged are the outcome's; so are the log from its first place on, and the buffer

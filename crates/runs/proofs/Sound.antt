@@ -1,12 +1,12 @@
 -- A call that is not wrong stays so until it has ended.
-use Prim.Native.Nat.{ℕ, zero, suc, ◌+◌, ◌≤◌, ◌<◌, zero-le}
-use mathlib.Core.Path.{◌≡◌, refl, sym, ap, ap₂, ◌∙◌, subst}
+use Prim.Native.Nat.{ℕ, zero, suc, ◌+◌, ◌≤◌, zero-le}
+use mathlib.Core.Path.{◌≡◌, refl, sym, ◌∙◌, subst}
 use mathlib.Core.Bool.{Bool, true, false, cond}
 use mathlib.Core.List.{List, [], ◌∷◌}
 use native.Mathlib.Omega.{arith}
 use borrow.Author.Tests.{eq-eqb, le-ltb, eqb-true, ltb-false}
 use lib.Dec.{eqb, ltb}
-use lib.ListN.{length, set, length-set}
+use lib.ListN.{length, length-set}
 use Rattle.fields.specs.Words.{received}
 use Rattle.phases.specs.declared.Kind.{Kind}
 use Rattle.phases.specs.declared.Kind.TheVariants.{Write, Read, WriteRead, ReadBack, SlaveWrite, SlaveRead, SlaveWaitAddressed}
@@ -15,7 +15,7 @@ use Rattle.phases.specs.declared.Role.TheVariants.{Byte, Second, Other, Nothing}
 use Rattle.parked.specs.declared.Next.{Next}
 use Rattle.parked.specs.declared.Next.TheVariants.{Read as ReadA, Write as WriteA, Over}
 use Rattle.parked.specs.declared.Parked.{Parked}
-use Rattle.phases.specs.Kinds.{incoming, restarts}
+use Rattle.phases.specs.Kinds.{restarts}
 use Rattle.parked.specs.Wants.{span}
 use Rattle.parked.specs.After.{phase_at, turns_as, turns, moves, after}
 use Rattle.phases.specs.Phases.{role}

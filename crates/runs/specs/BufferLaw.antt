@@ -1,7 +1,7 @@
 -- The buffer law. After a run the receive buffer is the one before it, with the bytes that came in stored one after the other from the
 -- place that the count says, and nothing else changed; each of them has its place in the buffer. The count then says the next place: a short
 -- frame's count says which bytes are new.
-use Rattle.std.specs.Prelude.{ℕ, zero, suc, ◌+◌, ◌≤◌, ◌≡◌, Bool, false, cond, List, [], ◌∷◌, length}
+use Rattle.std.specs.Prelude.{ℕ, zero, suc, ◌+◌, ◌≤◌, ◌≡◌, false, cond, List, [], ◌∷◌, length}
 use Rattle.std.proofs.lemmas.List.Edits.{sets}
 use Rattle.answers.specs.Answers.{says}
 use Rattle.fields.specs.Words.{received}

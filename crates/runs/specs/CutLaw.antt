@@ -2,7 +2,7 @@
 -- words: the same accesses in order, received bytes, last answer and parked call. The uncut run's log has room for those accesses and,
 -- unless the last run's log was full (answer 10), for any number more. This holds of a call that is parked and of one that is begun. And a
 -- run that parks and is given nothing new changes nothing.
-use Rattle.std.specs.Prelude.{ℕ, zero, suc, ◌+◌, ◌≡◌, Bool, true, false, List, [], ◌∷◌, ◌++◌, length, drop}
+use Rattle.std.specs.Prelude.{ℕ, suc, ◌+◌, ◌≡◌, Bool, true, false, List, [], ◌∷◌, ◌++◌, length, drop}
 use Rattle.answers.specs.Answers.{says}
 use Rattle.parked.specs.declared.Parked.{Parked}
 use Rattle.parked.specs.Refusals.{begun, ended}

@@ -1,5 +1,5 @@
 -- A run of a call over a list of words, with room for so many accesses in the log.
-use Rattle.std.specs.Prelude.{ℕ, zero, suc, ◌+◌, ◌/◌, ◌≡◌, Bool, true, false, cond, List, [], ◌∷◌, ◌++◌, length, get_or, drop, set}
+use Rattle.std.specs.Prelude.{ℕ, zero, suc, ◌+◌, ◌/◌, ◌≡◌, Bool, cond, List, [], ◌∷◌, ◌++◌, length, get_or, drop, set}
 use Rattle.answers.specs.Answers.{Said, says, said}
 use Rattle.access.specs.Access.{over}
 use Rattle.fields.specs.Words.{received}

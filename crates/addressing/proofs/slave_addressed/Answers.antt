@@ -1,6 +1,5 @@
 -- `addressing::slave_addressed` meets its contract.
-use mathlib.Core.Path.{◌≡◌, sym, ◌∙◌}
-use borrow.Author.Rules.{rules}
+use mathlib.Core.Path.{sym, ◌∙◌}
 use Rattle.addressing.proofs.slave_addressed.Goals as goal
 
 pub returns-then-is_set : goal.returns-then-is_set

@@ -1,5 +1,4 @@
 -- `before_wait::after` meets its contract.
-use borrow.Author.Rules.{rules}
 use Rattle.before_wait.proofs.after.Goals as goal
 
 pub returns-in-Start : goal.returns-in-Start

@@ -1,5 +1,5 @@
 -- `before_wait::flush_rxdr` meets its contract.
-use mathlib.Core.Path.{◌≡◌, sym, ◌∙◌}
+use mathlib.Core.Path.{sym, ◌∙◌}
 use Rattle.before_wait.proofs.flush_rxdr.Goals as goal
 
 pub returns-then-is_set : goal.returns-then-is_set

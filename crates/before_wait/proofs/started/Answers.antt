@@ -1,5 +1,5 @@
 -- `before_wait::started` meets its contract.
-use mathlib.Core.Path.{◌≡◌, sym, ◌∙◌}
+use mathlib.Core.Path.{sym, ◌∙◌}
 use Rattle.before_wait.proofs.started.Goals as goal
 
 pub returns-then-starting : goal.returns-then-starting

@@ -1,6 +1,5 @@
 -- `checks::check_fields` meets its contract: the flag chooses the step.
-use mathlib.Core.Path.{◌≡◌, sym, ◌∙◌}
-use native.Mathlib.Omega.{arith}
+use mathlib.Core.Path.{sym, ◌∙◌}
 use native.Mathlib.Nat.{lt_of_le_of_lt}
 use lib.Dec.{lit<}
 use Rattle.flag_order.specs.declared.Flag.TheVariants.{Txis, Rxne, Stopf, Tc, Addr}
@@ -8,8 +7,6 @@ use Rattle.ending.specs.Link.{link_at}
 use Rattle.ending.specs.Call.{check_isr_flags}
 use Rattle.ending.proofs.Outcomes.{outcome_12, check_by, length_255}
 use Rattle.checks.proofs.Grouped.{itself}
-use borrow.Author.Rules.{rules}
-use borrow.Enum.Refused.{opened}
 use Rattle.checks.proofs.check_fields.Goals as goal
 
 pub returns-then-impossible : goal.returns-then-impossible

@@ -1,8 +1,6 @@
 -- `checks::on_rest` meets its contract.
-use mathlib.Core.Path.{◌≡◌}
 use Rattle.ending.specs.Link.{link_at}
 use Rattle.checks.proofs.Grouped.{none}
-use borrow.Author.Rules.{rules}
 use borrow.Enum.Refused.{opened}
 use Rattle.checks.proofs.on_rest.Goals as goal
 

@@ -1,7 +1,5 @@
 -- `config::at_quotient` meets its contract.
-use mathlib.Core.Path.{◌≡◌, refl, sym, ◌∙◌}
 use borrow.Author.Tests.{lt-ltb, le-ltb}
-use borrow.Author.Rules.{rules}
 use Rattle.config.proofs.at_quotient.Goals as goal
 
 pub returns-then-q-mode : goal.returns-then-q-mode

@@ -1,7 +1,5 @@
 -- `config::at_speed` meets its contract.
-use mathlib.Core.Path.{◌≡◌, refl, sym, ◌∙◌}
 use borrow.Author.Tests.{eq-eqb, ne_eqb}
-use borrow.Author.Rules.{rules}
 use Rattle.config.proofs.at_speed.Goals as goal
 
 pub returns-then-speed-eq0 : goal.returns-then-speed-eq0

@@ -1,5 +1,4 @@
 -- `config::timing_word` meets its contract: its fields are put one after the other.
-use borrow.Author.Rules.{rules}
 use Rattle.config.proofs.timing_word.Goals as goal
 
 pub returns : goal.returns

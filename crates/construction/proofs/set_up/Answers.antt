@@ -1,7 +1,6 @@
 -- `construction::set_up` meets its contract.
-use mathlib.Core.Path.{◌≡◌, refl, sym, ◌∙◌}
+use mathlib.Core.Path.{refl, sym}
 use Rattle.construction.specs.SetUp.{set_up}
-use borrow.Author.Rules.{rules}
 use Rattle.construction.proofs.set_up.Goals as goal
 
 pub returns-in-Bits : goal.returns-in-Bits

@@ -9,7 +9,6 @@ use Rattle.access.specs.Access.{read, write, settle, settled}
 use Rattle.fields.specs.Layout.{CR1, TIMINGR}
 use Rattle.fields.specs.Words.{byte_control}
 use Rattle.construction.specs.SetUp.{own, first_written, own_addresses}
-use borrow.Author.Rules.{rules}
 use Rattle.construction.proofs.write_set_up.Goals as goal
 
 joined : (off disabled timing on configured oar1 oar2 : ℕ) (words : List ℕ) (first second : Bool) (n places : ℕ)

@@ -1,7 +1,6 @@
 -- `errors::one_more` meets its contract.
 use borrow.Author.Tests.{lt-ltb, le-ltb}
 use Rattle.limits.specs.Limits.{one_more}
-use borrow.Author.Rules.{rules}
 use Rattle.errors.proofs.one_more.Goals as goal
 
 pub returns-then-errors-lt4294967295 : goal.returns-then-errors-lt4294967295

@@ -1,5 +1,5 @@
 -- `final_flags::compared` meets its contract.
-use mathlib.Core.Path.{◌≡◌, sym, ◌∙◌}
+use mathlib.Core.Path.{sym, ◌∙◌}
 use Rattle.final_flags.proofs.compared.Goals as goal
 
 pub returns-then-more : goal.returns-then-more

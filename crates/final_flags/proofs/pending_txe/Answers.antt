@@ -1,5 +1,5 @@
 -- `final_flags::pending_txe` meets its contract.
-use mathlib.Core.Path.{◌≡◌, sym, ◌∙◌}
+use mathlib.Core.Path.{sym, ◌∙◌}
 use Rattle.final_flags.proofs.pending_txe.Goals as goal
 
 pub returns-then-is_set : goal.returns-then-is_set

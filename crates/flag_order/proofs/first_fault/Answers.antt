@@ -1,5 +1,5 @@
 -- `flag_order::first_fault` meets its contract: each test is one of the definition's.
-use mathlib.Core.Path.{◌≡◌, sym, ◌∙◌}
+use mathlib.Core.Path.{sym, ◌∙◌}
 use Rattle.flag_order.proofs.first_fault.Goals as goal
 
 pub returns-then-is_set : goal.returns-then-is_set

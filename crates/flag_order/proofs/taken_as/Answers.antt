@@ -1,5 +1,5 @@
 -- `flag_order::taken_as` meets its contract: a test of a group, and then which of it.
-use mathlib.Core.Path.{◌≡◌, sym, ◌∙◌}
+use mathlib.Core.Path.{sym, ◌∙◌}
 use Rattle.flag_order.specs.FlagOrder.{taken_as}
 use Rattle.flag_order.proofs.Groups.{grouped}
 use Rattle.flag_order.proofs.taken_as.Goals as goal

@@ -1,5 +1,4 @@
 -- `kept::end_number` meets its contract: each arm returns the number of its end.
-use borrow.Author.Rules.{rules}
 use Rattle.kept.proofs.end_number.Goals as goal
 
 pub returns-in-OutOfWords : goal.returns-in-OutOfWords

@@ -1,5 +1,4 @@
 -- `kept::end_word` meets its contract: the end with a word is told, and the others have none.
-use borrow.Author.Rules.{rules}
 use Rattle.kept.proofs.Wordless.{end_without}
 use borrow.Enum.Refused.{opened}
 use Rattle.kept.proofs.end_word.Goals as goal

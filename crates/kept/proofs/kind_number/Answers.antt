@@ -1,5 +1,4 @@
 -- `kept::kind_number` meets its contract: each arm returns the number of its kind.
-use borrow.Author.Rules.{rules}
 use Rattle.kept.proofs.kind_number.Goals as goal
 
 pub returns-in-Write : goal.returns-in-Write

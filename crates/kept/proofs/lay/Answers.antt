@@ -1,5 +1,4 @@
 -- `kept::lay` meets its contract: the numbers are those that its callees return.
-use borrow.Author.Rules.{rules}
 use Rattle.kept.proofs.lay.Goals as goal
 
 pub returns : goal.returns

@@ -1,5 +1,4 @@
 -- `kept::opening_number` meets its contract: each arm returns the number of its opening.
-use borrow.Author.Rules.{rules}
 use Rattle.kept.proofs.opening_number.Goals as goal
 
 pub returns-in-Start : goal.returns-in-Start

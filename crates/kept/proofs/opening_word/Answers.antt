@@ -1,5 +1,4 @@
 -- `kept::opening_word` meets its contract: the opening with a word is told, and the others have none.
-use borrow.Author.Rules.{rules}
 use Rattle.kept.proofs.Wordless.{opening_without}
 use borrow.Enum.Refused.{opened}
 use Rattle.kept.proofs.opening_word.Goals as goal

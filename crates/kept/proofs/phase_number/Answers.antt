@@ -1,5 +1,4 @@
 -- `kept::phase_number` meets its contract: each arm returns the number of its phase.
-use borrow.Author.Rules.{rules}
 use Rattle.kept.proofs.phase_number.Goals as goal
 
 pub returns-in-Open : goal.returns-in-Open

@@ -1,5 +1,4 @@
 -- `kept::phase_word` meets its contract: a phase with a word is told, and the others have none.
-use borrow.Author.Rules.{rules}
 use Rattle.kept.proofs.Wordless.{phase_without}
 use borrow.Enum.Refused.{opened}
 use Rattle.kept.proofs.phase_word.Goals as goal

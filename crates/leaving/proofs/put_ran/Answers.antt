@@ -1,5 +1,4 @@
 -- `leaving::put_ran` meets its contract: each answer with values is told, and the others have their number alone.
-use borrow.Author.Rules.{rules}
 use Rattle.flat.proofs.NoValues.{no_values}
 use borrow.Enum.Refused.{opened}
 use Rattle.leaving.proofs.put_ran.Goals as goal

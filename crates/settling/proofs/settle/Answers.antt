@@ -1,6 +1,5 @@
 -- `settling::settle` meets its contract: each test is one of the definition's.
-use mathlib.Core.Path.{◌≡◌, refl, sym, ◌∙◌}
-use borrow.Author.Rules.{rules}
+use mathlib.Core.Path.{refl, sym, ◌∙◌}
 use borrow.Author.Tests.{le-leb, lt-leb}
 use Rattle.settling.proofs.settle.Goals as goal
 

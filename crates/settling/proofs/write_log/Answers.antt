@@ -1,13 +1,11 @@
 -- `settling::write_log` meets its contract: after i turns the first i entries are laid over the log.
 use mathlib.Core.Path.{◌≡◌, refl, sym}
-use Prim.Native.Nat.{◌≤◌, ◌-◌}
 use native.Mathlib.Omega.{arith}
 use native.Mathlib.Numerals.{add-one}
-use lib.ListN.{length, take, length-set}
+use lib.ListN.{length, length-set}
 use lib.Seq.{take-length}
 use borrow.Author.Rules.{rules}
 use borrow.Author.Tests.{le-leb, lt-leb}
-use Rattle.access.specs.Access.{over}
 use Rattle.access.proofs.Over.{over_suc}
 use Rattle.settling.proofs.write_log.Goals as goal
 

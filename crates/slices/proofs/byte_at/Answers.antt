@@ -1,8 +1,7 @@
 -- `slices::byte_at` meets its contract.
-use mathlib.Core.Path.{◌≡◌, sym, ◌∙◌}
+use mathlib.Core.Path.{sym}
 use lib.ListN.{get_or-eq_default}
 use Rattle.slices.proofs.Places.{get_d_default}
-use borrow.Author.Rules.{rules}
 use Rattle.slices.proofs.byte_at.Goals as goal
 
 pub returns-then-place-bytes : goal.returns-then-place-bytes

@@ -1,5 +1,4 @@
 -- `steps::answered` meets its contract.
-use borrow.Author.Rules.{rules}
 use Rattle.steps.proofs.answered.Goals as goal
 
 pub returns : goal.returns

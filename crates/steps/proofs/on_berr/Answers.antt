@@ -5,7 +5,6 @@ use Rattle.flag_order.specs.declared.Flag.TheVariants.{Berr}
 use Rattle.ending.specs.Link.{link_at}
 use Rattle.ending.specs.Arms.{flag_plan}
 use Rattle.ending.proofs.Settling.{kept, gone}
-use borrow.Author.Rules.{rules}
 use Rattle.steps.proofs.on_berr.Goals as goal
 
 pub returns-then-report-eq0 : goal.returns-then-report-eq0

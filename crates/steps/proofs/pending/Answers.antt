@@ -1,5 +1,4 @@
 -- `steps::pending` meets its contract.
-use borrow.Author.Rules.{rules}
 use Rattle.steps.proofs.pending.Goals as goal
 
 pub returns : goal.returns

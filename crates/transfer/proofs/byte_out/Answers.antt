@@ -1,5 +1,4 @@
 -- `transfer::byte_out` meets its contract.
-use borrow.Author.Rules.{rules}
 use borrow.Author.Tests.{lt-ltb, le-ltb}
 use Rattle.transfer.proofs.byte_out.Goals as goal
 

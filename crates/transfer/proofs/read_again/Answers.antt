@@ -2,7 +2,6 @@
 use mathlib.Core.Path.{refl, sym}
 use native.Mathlib.Omega.{arith}
 use lib.ListN.{get_or-eq_default}
-use borrow.Author.Rules.{rules}
 use Rattle.transfer.proofs.read_again.Goals as goal
 
 pub returns-then-words-lt2 : goal.returns-then-words-lt2

@@ -1,5 +1,4 @@
 -- `waits::after_found` meets its contract.
-use borrow.Author.Rules.{rules}
 use Rattle.waits.proofs.after_found.Goals as goal
 
 pub returns-in-Wanted : goal.returns-in-Wanted

@@ -1,5 +1,4 @@
 -- `answers::Answer::number` meets its contract: each arm returns its case's number.
-use borrow.Author.Rules.{rules}
 use Rattle.answers.proofs.Answer.number.Goals as goal
 
 pub returns-in-Done : goal.returns-in-Done

@@ -1,6 +1,5 @@
 -- `blocking::master::write` meets its contract.
 use Rattle.blocking.proofs.Wholes.{unlent}
-use borrow.Author.Rules.{rules}
 use Rattle.blocking.proofs.master.write.Goals as goal
 
 pub returns : goal.returns

@@ -1,5 +1,5 @@
 -- `blocking::run::begin` meets its contract.
-use mathlib.Core.Path.{◌≡◌, sym, ◌∙◌}
+use mathlib.Core.Path.{sym, ◌∙◌}
 use mathlib.Core.Path.{refl}
 use lib.ListN.{length}
 use Prim.Native.Nat.{◌/◌}
@@ -7,7 +7,6 @@ use Rattle.blocking.proofs.Wholes.{call_good, call_bad}
 use Rattle.runs.proofs.OneAccess.{outcome_right}
 use Rattle.runs.proofs.Sound.{right_begun}
 use Rattle.parked.specs.Refusals.{begun}
-use borrow.Author.Rules.{rules}
 use Rattle.blocking.proofs.run.begin.Goals as goal
 
 pub returns-then-lengths : goal.returns-then-lengths

@@ -1,5 +1,4 @@
 -- `blocking::run::course` meets its contract.
-use borrow.Author.Rules.{rules}
 use Rattle.blocking.proofs.Wholes.{whole_run, whole_over}
 use Rattle.blocking.proofs.run.course.Goals as goal
 

@@ -6,7 +6,6 @@ use lib.ListN.{length, drop, drop_of_length-le}
 use native.Mathlib.Nat.{le_refl}
 use native.Mathlib.Omega.{min_cases}
 use borrow.Author.Rules.{part_to_end}
-use borrow.Author.Rules.{rules}
 use Rattle.blocking.proofs.run.resume.Goals as goal
 
 -- the words from the first one that is left are those after the ones taken

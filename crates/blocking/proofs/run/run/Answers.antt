@@ -1,10 +1,9 @@
 -- `blocking::run::run` meets its contract.
-use mathlib.Core.Path.{◌≡◌, sym, ◌∙◌}
+use mathlib.Core.Path.{sym, ◌∙◌}
 use mathlib.Core.Path.{refl}
 use lib.ListN.{length}
 use Prim.Native.Nat.{◌/◌}
 use Rattle.runs.proofs.OneAccess.{outcome_wrong, outcome_right}
-use borrow.Author.Rules.{rules}
 use Rattle.blocking.proofs.run.run.Goals as goal
 
 pub returns-then-wrong : goal.returns-then-wrong

@@ -1,6 +1,5 @@
 -- `blocking::slave::slave_write` meets its contract.
 use Rattle.blocking.proofs.Wholes.{unlent}
-use borrow.Author.Rules.{rules}
 use Rattle.blocking.proofs.slave.slave_write.Goals as goal
 
 pub returns : goal.returns

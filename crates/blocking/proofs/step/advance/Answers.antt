@@ -1,9 +1,9 @@
 -- `blocking::step::advance` meets its contract: the access that the code makes is the one that the definition wants.
-use mathlib.Core.Path.{◌≡◌, refl, sym, ap, ◌∙◌}
+use mathlib.Core.Path.{◌≡◌, sym, ap, ◌∙◌}
 use mathlib.Core.List.{List}
-use Prim.Native.Nat.{ℕ, suc, zero-le, ◌/◌, ◌≤◌}
+use Prim.Native.Nat.{ℕ, zero-le, ◌/◌, ◌≤◌}
 use native.Mathlib.Omega.{arith}
-use lib.ListN.{length, get_or, drop}
+use lib.ListN.{length, get_or}
 use Rattle.phases.specs.declared.End.TheVariants.{OutOfWords, LogFull}
 use Rattle.parked.specs.declared.Next.{Next}
 use Rattle.parked.specs.declared.Parked.{Parked}
@@ -11,7 +11,6 @@ use Rattle.parked.specs.Wants.{wants}
 use Rattle.runs.specs.Run.{next}
 use Rattle.blocking.proofs.OneTurn.{turned_over, turned_step, room_none}
 use Rattle.runs.proofs.OneAccess.{run_over, run_out, run_read, run_write, full_read, full_write}
-use borrow.Author.Rules.{rules}
 use Rattle.blocking.proofs.step.advance.Goals as goal
 
 -- the access that the code computes is the definition's

@@ -1,11 +1,7 @@
 -- `blocking::turns::forward` meets its contract: what the part does is one access of the whole run.
 use native.Mathlib.Nat.{lt_of_le_of_lt}
-use mathlib.Core.Path.{◌≡◌, refl, sym, ap, ◌∙◌}
-use Prim.Native.Nat.{ℕ, ◌+◌, ◌≤◌}
-use lib.ListN.{length}
 use Rattle.blocking.proofs.Bounds.{part_fits}
 use Rattle.blocking.proofs.OneTurn.{forward_part}
-use borrow.Author.Rules.{rules}
 use Rattle.blocking.proofs.turns.forward.Goals as goal
 
 pub overflow_add-result : goal.overflow_add-result

@@ -1,7 +1,6 @@
 -- `checks::watchdog::restarted` meets its contract.
 use mathlib.Core.Path.{refl}
 use borrow.Author.Tests.{lt-leb}
-use borrow.Author.Rules.{rules}
 use Rattle.checks.proofs.watchdog.restarted.Goals as goal
 
 pub returns-then-words-lt3 : goal.returns-then-words-lt3

@@ -1,5 +1,5 @@
 -- `checks::watchdog::watchdog_fields` meets its contract.
-use mathlib.Core.Path.{◌≡◌, refl, sym, ◌∙◌}
+use mathlib.Core.Path.{refl, sym, ◌∙◌}
 use native.Mathlib.Omega.{arith}
 use mathlib.Core.Bool.{true, false}
 use Prim.Native.Nat.{◌-◌}
@@ -12,7 +12,6 @@ use Rattle.ending.specs.Call.{execute_watchdog}
 use Rattle.ending.specs.Plan.{on_watchdog, changed}
 use Rattle.ending.proofs.Outcomes.{outcome_12, outcome_of, bare}
 use Rattle.ending.proofs.Settling.{kept, gone}
-use borrow.Author.Rules.{rules}
 use Rattle.checks.proofs.watchdog.watchdog_fields.Goals as goal
 
 pub returns-then-impossible : goal.returns-then-impossible

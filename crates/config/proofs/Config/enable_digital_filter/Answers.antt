@@ -1,5 +1,5 @@
 -- `config::Config::enable_digital_filter` meets its contract.
-use mathlib.Core.Path.{◌≡◌, refl, sym, ◌∙◌}
+use mathlib.Core.Path.{refl, sym, ◌∙◌}
 use Rattle.config.proofs.Config.enable_digital_filter.Goals as goal
 
 pub returns-then-filter_allowed : goal.returns-then-filter_allowed

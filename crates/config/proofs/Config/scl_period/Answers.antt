@@ -4,7 +4,6 @@ use native.Mathlib.Omega.{arith}
 use native.Mathlib.Nat.{lt_of_le_of_lt, mul-le-mul}
 use lib.Dec.{lit<}
 use Rattle.config.specs.Config.{period}
-use borrow.Author.Rules.{rules}
 use Rattle.config.proofs.Config.scl_period.Goals as goal
 
 pub overflow_mul-result : goal.overflow_mul-result

@@ -1,6 +1,5 @@
 -- `config::Config::timing_bits` meets its contract.
 use Rattle.config.specs.Config.{timing_bits}
-use borrow.Author.Rules.{rules}
 use Rattle.config.proofs.Config.timing_bits.Goals as goal
 
 pub returns-in-Set : goal.returns-in-Set

@@ -1,9 +1,7 @@
 -- `courses::closing::asked` meets its contract.
 use mathlib.Core.Path.{refl}
 use native.Mathlib.Omega.{arith}
-use Prim.Native.Nat.{◌-◌}
 use Rattle.courses.proofs.Parts.{asked_by}
-use borrow.Author.Rules.{rules}
 use Rattle.courses.proofs.closing.asked.Goals as goal
 
 pub overflow_sub-words : goal.overflow_sub-words

@@ -2,7 +2,7 @@
 use mathlib.Core.Path.{refl, ap, ◌∙◌}
 use native.Mathlib.Omega.{arith}
 use lib.ListN.{length, get_or}
-use Prim.Native.Nat.{◌+◌, ◌-◌, ◌≤◌, ◌<◌}
+use Prim.Native.Nat.{◌+◌, ◌≤◌, ◌<◌}
 use mathlib.Core.Bool.{cond}
 use Rattle.wanted.specs.declared.Wanted.TheVariants.{Txis, Rxne}
 use Rattle.phases.specs.declared.Phase.TheVariants.{Wait}
@@ -12,7 +12,6 @@ use Rattle.phases.specs.Kinds.{incoming, restarts}
 use Rattle.stretches.proofs.Moves.{asks}
 use Rattle.courses.proofs.Blocks.{stop, stop_found, wanted_outside}
 use Rattle.courses.proofs.Ends.{carried_turn}
-use borrow.Author.Rules.{rules}
 use Rattle.courses.proofs.closing.closing.Goals as goal
 
 pub returns-then-words-taken : goal.returns-then-words-taken

@@ -1,5 +1,4 @@
 -- `courses::closing::phase_of` meets its contract.
-use borrow.Author.Rules.{rules}
 use Rattle.courses.proofs.closing.phase_of.Goals as goal
 
 pub returns-in-NoWord : goal.returns-in-NoWord

@@ -1,7 +1,6 @@
 -- `courses::closing::quiet` meets its contract.
 use mathlib.Core.Path.{sym, ◌∙◌}
 use Rattle.courses.proofs.Ends.{never}
-use borrow.Author.Rules.{rules}
 use Rattle.courses.proofs.closing.quiet.Goals as goal
 
 pub returns-then-restarts : goal.returns-then-restarts

@@ -1,9 +1,7 @@
 -- `courses::closing::stopped` meets its contract.
 use mathlib.Core.Path.{refl}
 use native.Mathlib.Omega.{arith}
-use Prim.Native.Nat.{◌-◌}
 use Rattle.courses.proofs.Parts.{stopped_by}
-use borrow.Author.Rules.{rules}
 use Rattle.courses.proofs.closing.stopped.Goals as goal
 
 pub overflow_sub-words : goal.overflow_sub-words

@@ -1,5 +1,4 @@
 -- `courses::closing::turn_of` meets its contract.
-use borrow.Author.Rules.{rules}
 use Rattle.courses.proofs.closing.turn_of.Goals as goal
 
 pub returns-in-NoWord : goal.returns-in-NoWord

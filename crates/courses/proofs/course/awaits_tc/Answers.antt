@@ -1,6 +1,5 @@
 -- `courses::course::awaits_tc` meets its contract.
 use Rattle.courses.proofs.Ends.{never}
-use borrow.Author.Rules.{rules}
 use Rattle.courses.proofs.course.awaits_tc.Goals as goal
 
 pub returns-then-count-send : goal.returns-then-count-send

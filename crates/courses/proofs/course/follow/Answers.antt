@@ -3,7 +3,6 @@ use mathlib.Core.Path.{refl, sym, ◌∙◌}
 use Prim.Native.Nat.{zero-le}
 use Rattle.stretches.proofs.Carries.{carried_none}
 use Rattle.courses.proofs.Ends.{follows_on}
-use borrow.Author.Rules.{rules}
 use Rattle.courses.proofs.course.follow.Goals as goal
 
 pub opened-o-requires : goal.opened-o-requires

@@ -2,7 +2,6 @@
 use mathlib.Core.Path.{sym, ap, ◌∙◌}
 use Rattle.phases.specs.Kinds.{incoming}
 use Rattle.stretches.proofs.Carries.{carried_none}
-use borrow.Author.Rules.{rules}
 use Rattle.courses.proofs.course.heard.Goals as goal
 
 pub returns-then-incoming : goal.returns-then-incoming

@@ -1,9 +1,7 @@
 -- `courses::course::restarted` meets its contract.
 use mathlib.Core.Path.{refl}
 use native.Mathlib.Omega.{arith}
-use Prim.Native.Nat.{◌-◌}
 use Rattle.courses.proofs.Parts.{restarted_by}
-use borrow.Author.Rules.{rules}
 use Rattle.courses.proofs.course.restarted.Goals as goal
 
 pub returns-then-words-taken : goal.returns-then-words-taken

@@ -3,7 +3,6 @@ use mathlib.Core.Path.{refl, ◌∙◌}
 use Rattle.stretches.proofs.Carries.{carried_on}
 use Rattle.courses.specs.Courses.{as_kind}
 use Rattle.courses.proofs.Ends.{closes_follows, follows_on}
-use borrow.Author.Rules.{rules}
 use Rattle.courses.proofs.course.through.Goals as goal
 
 pub turned-half-requires : goal.turned-half-requires

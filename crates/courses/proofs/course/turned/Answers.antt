@@ -2,7 +2,6 @@
 use native.Mathlib.Omega.{arith}
 use Rattle.stretches.proofs.Carries.{carried_none}
 use Rattle.courses.proofs.Blocks.{restart}
-use borrow.Author.Rules.{rules}
 use Rattle.courses.proofs.course.turned.Goals as goal
 
 pub overflow_add-result : goal.overflow_add-result

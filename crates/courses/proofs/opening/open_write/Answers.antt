@@ -1,5 +1,4 @@
 -- `courses::opening::open_write` meets its contract.
-use borrow.Author.Rules.{rules}
 use Rattle.courses.proofs.opening.open_write.Goals as goal
 
 pub returns : goal.returns

@@ -1,5 +1,4 @@
 -- `courses::opening::open_write_read` meets its contract.
-use borrow.Author.Rules.{rules}
 use Rattle.courses.proofs.opening.open_write_read.Goals as goal
 
 pub returns : goal.returns

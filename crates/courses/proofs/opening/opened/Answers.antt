@@ -5,7 +5,6 @@ use Rattle.phases.specs.declared.Phase.{Phase}
 use Rattle.parked.proofs.Phases.{at_phase}
 use Rattle.stretches.proofs.Carries.{carried_none}
 use Rattle.courses.proofs.Ends.{opens, shut}
-use borrow.Author.Rules.{rules}
 use Rattle.courses.proofs.opening.opened.Goals as goal
 
 pub returns-in-Wait : goal.returns-in-Wait

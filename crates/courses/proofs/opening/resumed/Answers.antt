@@ -2,12 +2,11 @@
 use mathlib.Core.Path.{ap, ◌∙◌}
 use native.Mathlib.Omega.{arith}
 use lib.ListN.{length}
-use Prim.Native.Nat.{◌-◌, ◌<◌}
+use Prim.Native.Nat.{◌<◌}
 use Rattle.phases.specs.Kinds.{incoming}
 use Rattle.stretches.proofs.Puts.{put_fits, put_logs, put_not}
 use Rattle.courses.proofs.Blocks.{resumes}
 use Rattle.courses.proofs.Ends.{opens, shut}
-use borrow.Author.Rules.{rules}
 use Rattle.courses.proofs.opening.resumed.Goals as goal
 
 pub returns-then-words-eq0 : goal.returns-then-words-eq0

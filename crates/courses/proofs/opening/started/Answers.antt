@@ -1,13 +1,11 @@
 -- `courses::opening::started` meets its contract.
 use mathlib.Core.Path.{sym, ap, ◌∙◌}
 use native.Mathlib.Omega.{arith}
-use Prim.Native.Nat.{◌-◌}
 use Rattle.phases.specs.declared.Phase.{Phase}
 use Rattle.parked.proofs.Phases.{at_phase}
 use Rattle.courses.proofs.Blocks.{open_write, open_read, open_write_read}
 use Rattle.courses.proofs.Ends.{shut}
 use Rattle.courses.proofs.Parts.{opens_by}
-use borrow.Author.Rules.{rules}
 use Rattle.courses.proofs.opening.started.Goals as goal
 
 pub returns-then-words-lt3 : goal.returns-then-words-lt3

@@ -1,5 +1,4 @@
 -- `cr2::Cr2::sized` meets its contract: its fields are put one after the other.
-use borrow.Author.Rules.{rules}
 use Rattle.fields.specs.Layout.{place, NBYTES}
 use Rattle.fields.specs.Words.{sized}
 use Rattle.fields.proofs.FieldLaws.{put_low}

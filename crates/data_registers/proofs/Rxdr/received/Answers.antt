@@ -1,5 +1,4 @@
 -- `data_registers::Rxdr::received` meets its contract.
-use borrow.Author.Rules.{rules}
 use Rattle.data_registers.proofs.Rxdr.received.Goals as goal
 
 pub returns : goal.returns

@@ -1,5 +1,4 @@
 -- `ffi::fresh::construct_fields` meets its contract: the fields are a fresh link's or stay, and the configuration is the one that its numbers say.
-use borrow.Author.Rules.{rules}
 use borrow.Author.Tests.{eq-eqb, ne_eqb}
 use Rattle.ffi.proofs.fresh.construct_fields.Goals as goal
 

@@ -1,5 +1,4 @@
 -- `ffi::never::i2c_blocking_construct` meets its contract: the configuration is the one that its numbers say.
-use borrow.Author.Rules.{rules}
 use Rattle.ffi.proofs.never.i2c_blocking_construct.Goals as goal
 
 pub returns : goal.returns

@@ -1,5 +1,4 @@
 -- `ffi::never::i2c_blocking_unlisten` meets its contract: the event is the one that its number says.
-use borrow.Author.Rules.{rules}
 use Rattle.ffi.proofs.never.i2c_blocking_unlisten.Goals as goal
 
 pub returns : goal.returns

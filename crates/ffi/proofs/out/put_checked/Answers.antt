@@ -1,5 +1,4 @@
 -- `ffi::out::put_checked` meets its contract: each answer is told.
-use borrow.Author.Rules.{rules}
 use Rattle.ffi.proofs.out.put_checked.Goals as goal
 
 pub returns-in-Pending : goal.returns-in-Pending

@@ -1,5 +1,4 @@
 -- `ffi::out::put_errors` meets its contract: each answer is told.
-use borrow.Author.Rules.{rules}
 use Rattle.ffi.proofs.out.put_errors.Goals as goal
 
 pub returns-in-Errors : goal.returns-in-Errors

@@ -1,5 +1,4 @@
 -- `ffi::out::put_started` meets its contract: each answer is told.
-use borrow.Author.Rules.{rules}
 use Rattle.ffi.proofs.out.put_started.Goals as goal
 
 pub returns-in-Done : goal.returns-in-Done

@@ -1,8 +1,6 @@
 -- `fields::Field::mask` meets its contract.
-use Prim.Native.Nat.{◌-◌}
 use native.Mathlib.Nat.{min-eq_left, min-eq_right, le_of_lt}
 use native.Mathlib.Omega.{arith}
-use borrow.Author.Rules.{rules}
 use lib.Pow.{pow_pos}
 use Rattle.fields.proofs.ShiftAndMask.{bit_is, ones_above}
 use Rattle.fields.proofs.Field.mask.Goals as goal

@@ -1,5 +1,5 @@
 -- `flags::Isr::direction` meets its contract.
-use mathlib.Core.Path.{◌≡◌, sym, ◌∙◌}
+use mathlib.Core.Path.{sym, ◌∙◌}
 use Rattle.flags.specs.Flags.{direction_of}
 use Rattle.flags.proofs.Isr.direction.Goals as goal
 

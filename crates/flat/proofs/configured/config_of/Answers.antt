@@ -1,5 +1,4 @@
 -- `flat::configured::config_of` meets its contract: the two settings are those of their numbers.
-use borrow.Author.Rules.{rules}
 use Rattle.flat.proofs.configured.config_of.Goals as goal
 
 pub returns : goal.returns

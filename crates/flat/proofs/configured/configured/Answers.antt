@@ -1,5 +1,4 @@
 -- `flat::configured::configured` meets its contract: the mask is the one of its number.
-use borrow.Author.Rules.{rules}
 use Rattle.flat.proofs.configured.configured.Goals as goal
 
 pub returns : goal.returns

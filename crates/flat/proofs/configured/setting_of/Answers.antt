@@ -1,5 +1,4 @@
 -- `flat::configured::setting_of` meets its contract: the test of the code is the test of the definition.
-use borrow.Author.Rules.{rules}
 use borrow.Author.Tests.{lt-ltb, le-ltb}
 use Rattle.flat.proofs.configured.setting_of.Goals as goal
 

@@ -1,5 +1,4 @@
 -- `kept::taken::kind_of` meets its contract: each arm returns the kind of its number, and a number above the last is past the list.
-use borrow.Author.Rules.{rules}
 use mathlib.Core.Path.{sym}
 use lib.ListN.{get_or-eq_default}
 use Rattle.kept.specs.Kept.{kinds}

@@ -3,7 +3,6 @@ use mathlib.Core.Path.{sym}
 use lib.ListN.{get_or-eq_default}
 use Rattle.kept.specs.Kept.{phases}
 use Rattle.fields.proofs.Past.{past}
-use borrow.Enum.Refused.{opened}
 use Rattle.kept.proofs.taken.phase_of.Goals as goal
 
 pub returns-in-0 : goal.returns-in-0

@@ -1,5 +1,4 @@
 -- `never_wait::construct::i2c1` meets its contract.
-use borrow.Author.Rules.{rules}
 use Rattle.never_wait.proofs.construct.i2c1.Goals as goal
 
 pub returns : goal.returns

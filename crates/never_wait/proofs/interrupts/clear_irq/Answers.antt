@@ -3,7 +3,6 @@ use mathlib.Core.Path.{refl}
 use Prim.Native.Nat.{zero-le}
 use borrow.Author.Tests.{le-leb}
 use lib.ListN.{length}
-use borrow.Author.Rules.{rules}
 use Rattle.never_wait.proofs.interrupts.clear_irq.Goals as goal
 
 pub returns-in-AddressMatch : goal.returns-in-AddressMatch

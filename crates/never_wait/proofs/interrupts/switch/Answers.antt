@@ -1,5 +1,4 @@
 -- `never_wait::interrupts::switch` meets its contract.
-use borrow.Author.Rules.{rules}
 use Rattle.never_wait.proofs.interrupts.switch.Goals as goal
 
 pub returns : goal.returns

@@ -1,5 +1,4 @@
 -- `never_wait::interrupts::switched` meets its contract.
-use borrow.Author.Rules.{rules}
 use Rattle.never_wait.proofs.interrupts.switched.Goals as goal
 
 pub returns-in-AddressMatch : goal.returns-in-AddressMatch

@@ -1,5 +1,4 @@
 -- `never_wait::slave::slave_sbc` meets its contract.
-use borrow.Author.Rules.{rules}
 use Rattle.never_wait.proofs.slave.slave_sbc.Goals as goal
 
 pub returns : goal.returns

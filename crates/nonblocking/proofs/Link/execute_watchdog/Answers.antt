@@ -1,5 +1,4 @@
 -- `nonblocking::Link::execute_watchdog` meets its contract.
-use borrow.Author.Rules.{rules}
 use Rattle.nonblocking.proofs.Link.execute_watchdog.Goals as goal
 
 pub returns : goal.returns

@@ -1,5 +1,5 @@
 -- `nonblocking::Link::get_errors_reset` meets its contract.
-use mathlib.Core.Path.{◌≡◌, refl, sym, ◌∙◌}
+use mathlib.Core.Path.{refl, sym, ◌∙◌}
 use mathlib.Core.List.{[], ◌∷◌}
 use Rattle.ending.specs.Call.{get_errors_reset}
 use Rattle.ending.specs.Link.{common, link_of}

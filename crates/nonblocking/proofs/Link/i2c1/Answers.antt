@@ -1,5 +1,4 @@
 -- `nonblocking::Link::i2c1` meets its contract.
-use borrow.Author.Rules.{rules}
 use Rattle.nonblocking.proofs.Link.i2c1.Goals as goal
 
 pub returns : goal.returns

@@ -1,11 +1,10 @@
 -- `nonblocking::Link::interrupts` meets its contract.
-use mathlib.Core.Path.{◌≡◌, refl, sym, ◌∙◌}
+use mathlib.Core.Path.{refl, sym, ◌∙◌}
 use lib.ListN.{get_or}
 use Rattle.ending.specs.Plan.{interrupt_plan}
 use Rattle.nonblocking.specs.Model.{model}
 use Rattle.ending.proofs.Outcomes.{settled_12, settled_possible}
 use Rattle.ending.proofs.Settling.{same}
-use borrow.Author.Rules.{rules}
 use Rattle.nonblocking.proofs.Link.interrupts.Goals as goal
 
 pub returns-then-impossible : goal.returns-then-impossible

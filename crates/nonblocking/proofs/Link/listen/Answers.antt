@@ -1,6 +1,5 @@
 -- `nonblocking::Link::listen` meets its contract.
 use Rattle.ending.specs.Outcome.{outcome}
-use borrow.Author.Rules.{rules}
 use Rattle.nonblocking.proofs.Link.listen.Goals as goal
 
 pub returns : goal.returns

@@ -1,5 +1,4 @@
 -- `nonblocking::Link::master_read` meets its contract.
-use borrow.Author.Rules.{rules}
 use Rattle.nonblocking.proofs.Link.master_read.Goals as goal
 
 pub returns : goal.returns

@@ -1,6 +1,5 @@
 -- `nonblocking::Link::master_write` meets its contract.
 use Rattle.ending.specs.Outcome.{outcome}
-use borrow.Author.Rules.{rules}
 use Rattle.nonblocking.proofs.Link.master_write.Goals as goal
 
 pub returns : goal.returns

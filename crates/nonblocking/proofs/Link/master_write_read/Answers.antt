@@ -1,6 +1,5 @@
 -- `nonblocking::Link::master_write_read` meets its contract.
 use Rattle.ending.specs.Outcome.{outcome}
-use borrow.Author.Rules.{rules}
 use Rattle.nonblocking.proofs.Link.master_write_read.Goals as goal
 
 pub returns : goal.returns

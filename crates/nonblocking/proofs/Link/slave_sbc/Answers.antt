@@ -1,12 +1,11 @@
 -- `nonblocking::Link::slave_sbc` meets its contract.
-use mathlib.Core.Path.{◌≡◌, refl, sym, ◌∙◌}
+use mathlib.Core.Path.{refl, sym, ◌∙◌}
 use lib.ListN.{get_or}
 use Rattle.ending.specs.Call.{slave_sbc}
 use Rattle.ending.specs.Plan.{plan_of}
 use Rattle.nonblocking.specs.Model.{model}
 use Rattle.ending.proofs.Outcomes.{outcome_12, outcome_of}
 use Rattle.ending.proofs.Settling.{same}
-use borrow.Author.Rules.{rules}
 use Rattle.nonblocking.proofs.Link.slave_sbc.Goals as goal
 
 pub returns-then-impossible : goal.returns-then-impossible

@@ -1,5 +1,4 @@
 -- `nonblocking::Link::slave_write` meets its contract.
-use borrow.Author.Rules.{rules}
 use Rattle.nonblocking.proofs.Link.slave_write.Goals as goal
 
 pub returns : goal.returns

@@ -1,5 +1,5 @@
 -- `nonblocking::Link::tell` meets its contract.
-use mathlib.Core.Path.{◌≡◌, refl, sym, ◌∙◌}
+use mathlib.Core.Path.{refl, sym, ◌∙◌}
 use Rattle.ending.specs.Link.{impossible}
 use Rattle.nonblocking.proofs.Link.tell.Goals as goal
 

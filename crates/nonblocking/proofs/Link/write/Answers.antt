@@ -1,5 +1,4 @@
 -- `nonblocking::Link::write` meets its contract.
-use borrow.Author.Rules.{rules}
 use Rattle.nonblocking.proofs.Link.write.Goals as goal
 
 pub returns : goal.returns

@@ -1,5 +1,4 @@
 -- `numbered::call::take_up` meets its contract: the kind and the phase are those of their numbers.
-use borrow.Author.Rules.{rules}
 use Rattle.numbered.proofs.call.take_up.Goals as goal
 
 pub returns : goal.returns

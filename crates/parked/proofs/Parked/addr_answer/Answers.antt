@@ -1,5 +1,5 @@
 -- `parked::Parked::addr_answer` meets its contract.
-use mathlib.Core.Path.{◌≡◌, sym, ◌∙◌}
+use mathlib.Core.Path.{sym, ◌∙◌}
 use Rattle.parked.specs.After.{addr_answer}
 use Rattle.parked.proofs.Parked.addr_answer.Goals as goal
 

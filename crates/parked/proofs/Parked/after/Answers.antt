@@ -1,7 +1,6 @@
 -- `parked::Parked::after` meets its contract.
-use mathlib.Core.Path.{◌≡◌, sym, ◌∙◌}
+use mathlib.Core.Path.{sym, ◌∙◌}
 use Rattle.parked.specs.After.{after}
-use native.Mathlib.Omega.{arith}
 use Rattle.parked.proofs.Counts.{moves_fits}
 use borrow.Author.Rules.{rules}
 use Rattle.parked.proofs.Parked.after.Goals as goal

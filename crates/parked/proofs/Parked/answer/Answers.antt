@@ -1,5 +1,4 @@
 -- `parked::Parked::answer` meets its contract.
-use borrow.Author.Rules.{rules}
 use Rattle.parked.proofs.Parked.answer.Goals as goal
 
 pub returns-in-Addr : goal.returns-in-Addr

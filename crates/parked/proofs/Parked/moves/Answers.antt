@@ -1,7 +1,6 @@
 -- `parked::Parked::moves` meets its contract.
-use mathlib.Core.Path.{◌≡◌, sym, ◌∙◌}
+use mathlib.Core.Path.{sym, ◌∙◌}
 use Rattle.parked.specs.After.{moves}
-use borrow.Author.Rules.{rules}
 use Rattle.parked.proofs.Parked.moves.Goals as goal
 
 pub returns-in-Byte : goal.returns-in-Byte

@@ -1,5 +1,5 @@
 -- `parked::Parked::span` meets its contract.
-use mathlib.Core.Path.{◌≡◌, sym, ◌∙◌}
+use mathlib.Core.Path.{sym, ◌∙◌}
 use Rattle.parked.specs.Wants.{span}
 use Rattle.parked.proofs.Parked.span.Goals as goal
 

@@ -1,5 +1,5 @@
 -- `parked::Parked::stop_answer` meets its contract.
-use mathlib.Core.Path.{◌≡◌, sym, ◌∙◌}
+use mathlib.Core.Path.{sym, ◌∙◌}
 use borrow.Author.Tests.{eq-eqb, ne_eqb}
 use Rattle.parked.specs.After.{stop_answer}
 use Rattle.parked.proofs.Parked.stop_answer.Goals as goal

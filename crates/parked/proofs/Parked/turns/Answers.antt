@@ -1,7 +1,6 @@
 -- `parked::Parked::turns` meets its contract.
-use mathlib.Core.Path.{◌≡◌, sym, ◌∙◌}
+use mathlib.Core.Path.{sym, ◌∙◌}
 use Rattle.parked.specs.After.{turns}
-use borrow.Author.Rules.{rules}
 use Rattle.parked.proofs.Parked.turns.Goals as goal
 
 pub returns-in-Byte : goal.returns-in-Byte

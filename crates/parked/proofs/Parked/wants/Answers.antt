@@ -1,7 +1,6 @@
 -- `parked::Parked::wants` meets its contract.
-use mathlib.Core.Path.{◌≡◌, sym, ◌∙◌}
+use mathlib.Core.Path.{sym, ◌∙◌}
 use Rattle.parked.proofs.Phases.{wants_at_lem}
-use borrow.Author.Rules.{rules}
 use Rattle.parked.proofs.Parked.wants.Goals as goal
 
 pub returns-in-Open : goal.returns-in-Open

@@ -1,5 +1,5 @@
 -- `parked::Parked::wants_byte` meets its contract.
-use mathlib.Core.Path.{◌≡◌, sym, ◌∙◌}
+use mathlib.Core.Path.{sym, ◌∙◌}
 use Rattle.parked.proofs.Parked.wants_byte.Goals as goal
 
 pub returns-then-incoming : goal.returns-then-incoming

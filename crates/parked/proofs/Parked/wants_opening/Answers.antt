@@ -1,5 +1,4 @@
 -- `parked::Parked::wants_opening` meets its contract.
-use borrow.Author.Rules.{rules}
 use Rattle.parked.proofs.Parked.wants_opening.Goals as goal
 
 pub returns-in-Start : goal.returns-in-Start

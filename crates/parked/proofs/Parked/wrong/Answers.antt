@@ -1,5 +1,5 @@
 -- `parked::Parked::wrong` meets its contract.
-use mathlib.Core.Path.{◌≡◌, sym, ◌∙◌}
+use mathlib.Core.Path.{sym, ◌∙◌}
 use borrow.Author.Tests.{eq-eqb, ne_eqb}
 use Rattle.parked.specs.Refusals.{wrong}
 use Rattle.parked.proofs.Parked.wrong.Goals as goal

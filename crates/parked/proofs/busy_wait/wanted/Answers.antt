@@ -1,5 +1,5 @@
 -- `parked::busy_wait::wanted` meets its contract.
-use mathlib.Core.Path.{◌≡◌, sym, ◌∙◌}
+use mathlib.Core.Path.{sym, ◌∙◌}
 use Rattle.parked.proofs.busy_wait.wanted.Goals as goal
 
 pub returns-then-incoming : goal.returns-then-incoming

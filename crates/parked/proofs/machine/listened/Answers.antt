@@ -1,5 +1,5 @@
 -- `parked::machine::listened` meets its contract.
-use mathlib.Core.Path.{◌≡◌, sym, ◌∙◌}
+use mathlib.Core.Path.{sym, ◌∙◌}
 use Rattle.parked.proofs.machine.listened.Goals as goal
 
 pub returns-then-is_set : goal.returns-then-is_set

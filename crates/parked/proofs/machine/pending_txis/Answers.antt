@@ -1,5 +1,5 @@
 -- `parked::machine::pending_txis` meets its contract.
-use mathlib.Core.Path.{◌≡◌, sym, ◌∙◌}
+use mathlib.Core.Path.{sym, ◌∙◌}
 use Rattle.parked.proofs.machine.pending_txis.Goals as goal
 
 pub returns-then-is_set : goal.returns-then-is_set

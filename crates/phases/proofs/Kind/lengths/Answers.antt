@@ -1,5 +1,5 @@
 -- `phases::Kind::lengths` meets its contract.
-use mathlib.Core.Path.{◌≡◌, sym, ◌∙◌}
+use mathlib.Core.Path.{sym, ◌∙◌}
 use Rattle.phases.specs.Lengths.{lengths}
 use Rattle.phases.proofs.Kind.lengths.Goals as goal
 

@@ -1,7 +1,6 @@
 -- `phases::Kind::pads` meets its contract.
 use mathlib.Core.Path.{refl}
 use mathlib.Core.List.{[], ◌∷◌}
-use borrow.Author.Rules.{rules}
 use Rattle.phases.specs.Kinds.{pads}
 use Rattle.phases.proofs.Arms.{kinds}
 use borrow.Enum.Refused.{opened}

@@ -1,5 +1,4 @@
 -- `phases::Kind::setup_word` meets its contract.
-use borrow.Author.Rules.{rules}
 use Rattle.phases.proofs.Kind.setup_word.Goals as goal
 
 pub returns-in-Write : goal.returns-in-Write

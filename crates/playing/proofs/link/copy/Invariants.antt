@@ -1,6 +1,5 @@
 -- `playing::link::copy` is safe and ends.
 use Prim.Native.Nat.{◌-◌, ◌≤◌}
-use borrow.Author.Rules.{rules}
 use Rattle.playing.proofs.link.copy.Given as goal
 
 abbrev pub invariant-loop-i : goal.invariant-loop-i

@@ -1,6 +1,5 @@
 -- `print::line::first_weight` is safe and ends.
 use Prim.Native.Nat.{◌-◌, ◌<◌}
-use borrow.Author.Rules.{rules}
 use Rattle.print.proofs.line.first_weight.Given as goal
 
 abbrev pub invariant-loop-weight : goal.invariant-loop-weight

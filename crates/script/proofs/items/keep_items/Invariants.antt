@@ -1,6 +1,5 @@
 -- `script::items::keep_items` is safe and ends.
 use Prim.Native.Nat.{◌-◌, ◌≤◌}
-use borrow.Author.Rules.{rules}
 use Rattle.script.proofs.items.keep_items.Given as goal
 
 abbrev pub invariant-loop-place : goal.invariant-loop-place

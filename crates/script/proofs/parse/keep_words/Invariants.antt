@@ -1,6 +1,5 @@
 -- `script::parse::keep_words` is safe and ends.
 use Prim.Native.Nat.{◌-◌, ◌≤◌}
-use borrow.Author.Rules.{rules}
 use Rattle.script.proofs.parse.keep_words.Given as goal
 
 abbrev pub invariant-loop-count : goal.invariant-loop-count

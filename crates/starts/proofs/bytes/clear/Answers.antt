@@ -1,11 +1,8 @@
 -- `starts::bytes::clear` meets its contract: after i turns i zeros are laid over the buffer.
-use mathlib.Core.Path.{◌≡◌, refl, sym}
-use Prim.Native.Nat.{ℕ, ◌≤◌, ◌-◌}
+use mathlib.Core.Path.{◌≡◌, sym}
 use native.Mathlib.Omega.{arith}
 use native.Mathlib.Numerals.{add-one}
-use lib.ListN.{replicate}
 use borrow.Author.Rules.{rules}
-use Rattle.access.specs.Access.{over}
 use Rattle.starts.proofs.Laid.{over_copies}
 use Rattle.starts.proofs.bytes.clear.Goals as goal
 

@@ -1,12 +1,11 @@
 -- `starts::bytes::copy_in` meets its contract: the bytes are laid over the second array, and then over the buffer.
-use mathlib.Core.Path.{◌≡◌, refl, sym, ◌∙◌, ap}
-use Prim.Native.Nat.{ℕ, ◌≤◌, ◌-◌}
+use mathlib.Core.Path.{◌≡◌, sym, ◌∙◌, ap}
+use Prim.Native.Nat.{ℕ}
 use native.Mathlib.Omega.{arith}
 use native.Mathlib.Numerals.{add-one}
 use mathlib.Core.List.{List}
-use lib.ListN.{length, take, get_or, replicate, length-replicate}
+use lib.ListN.{length, get_or, replicate, length-replicate}
 use lib.Seq.{take-length}
-use borrow.Author.Rules.{rules}
 use Rattle.access.specs.Access.{over}
 use Rattle.access.proofs.Over.{over_suc}
 use Rattle.starts.proofs.Laid.{over_at}

@@ -1,15 +1,8 @@
 -- `starts::bytes::copy_in` meets its contract: the bytes are laid over the second array, and then over the buffer.
-use mathlib.Core.Path.{◌≡◌, refl, sym, ◌∙◌, ap}
-use Prim.Native.Nat.{ℕ, ◌≤◌, ◌-◌}
-use native.Mathlib.Omega.{arith}
-use native.Mathlib.Numerals.{add-one}
-use mathlib.Core.List.{List}
-use lib.ListN.{length, take, get_or, replicate, length-replicate}
-use lib.Seq.{take-length}
-use borrow.Author.Rules.{rules}
+use mathlib.Core.Path.{◌≡◌}
+use Prim.Native.Nat.{◌≤◌, ◌-◌}
+use lib.ListN.{take}
 use Rattle.access.specs.Access.{over}
-use Rattle.access.proofs.Over.{over_suc}
-use Rattle.starts.proofs.Laid.{over_at}
 use Rattle.starts.proofs.bytes.copy_in.Given as goal
 
 abbrev pub invariant-loop-i : goal.invariant-loop-i

@@ -1,5 +1,5 @@
 -- `starts::master::read_fields` meets its contract.
-use mathlib.Core.Path.{◌≡◌, refl, sym, ◌∙◌}
+use mathlib.Core.Path.{sym, ◌∙◌}
 use native.Mathlib.Omega.{arith}
 use mathlib.Core.Bool.{true}
 use mathlib.Core.List.{[], ◌∷◌}
@@ -12,7 +12,6 @@ use Rattle.ending.specs.Plan.{read_start}
 use Rattle.ending.specs.Outcome.{outcome}
 use Rattle.ending.proofs.Outcomes.{settled_12, settled_possible}
 use Rattle.starts.proofs.Accepted.{waits, goes}
-use borrow.Author.Rules.{rules}
 use Rattle.starts.proofs.master.read_fields.Goals as goal
 
 pub returns-then-impossible : goal.returns-then-impossible

@@ -1,6 +1,5 @@
 -- `starts::master::write` meets its contract: what `write_fields` ensures, at the fields that it is not lent.
 use Rattle.ending.specs.Outcome.{outcome}
-use borrow.Author.Rules.{rules}
 use Rattle.starts.proofs.master.write.Goals as goal
 
 pub returns : goal.returns

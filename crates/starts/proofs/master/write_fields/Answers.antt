@@ -1,5 +1,5 @@
 -- `starts::master::write_fields` meets its contract.
-use mathlib.Core.Path.{◌≡◌, refl, sym, ◌∙◌}
+use mathlib.Core.Path.{sym, ◌∙◌}
 use native.Mathlib.Omega.{arith}
 use Prim.Native.Nat.{ℕ}
 use mathlib.Core.Bool.{false}
@@ -12,7 +12,6 @@ use Rattle.ending.specs.Link.{link_at, link_of, begun}
 use Rattle.ending.specs.Plan.{write_start, good_length}
 use Rattle.ending.proofs.Outcomes.{settled_12, settled_possible, good_255}
 use Rattle.starts.proofs.Accepted.{waits, goes, good_then}
-use borrow.Author.Rules.{rules}
 use Rattle.starts.proofs.master.write_fields.Goals as goal
 
 pub returns-then-impossible : goal.returns-then-impossible

@@ -1,5 +1,4 @@
 -- `starts::offering::slave_opened` meets its contract.
-use borrow.Author.Rules.{rules}
 use Rattle.starts.proofs.offering.slave_opened.Goals as goal
 
 pub returns : goal.returns

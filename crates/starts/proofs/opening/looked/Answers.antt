@@ -8,7 +8,6 @@ use Rattle.access.specs.Access.{read}
 use Rattle.answers.specs.Answers.{said}
 use Rattle.starts.proofs.Opened.{short, full, stored}
 use Rattle.access.proofs.Stored.{two, second}
-use borrow.Author.Rules.{rules}
 use Rattle.starts.proofs.opening.looked.Goals as goal
 
 pub returns-then-words-lt1 : goal.returns-then-words-lt1

@@ -1,6 +1,6 @@
 -- `starts::opening::write_opened` meets its contract.
-use mathlib.Core.Path.{◌≡◌, refl, sym, ◌∙◌}
-use mathlib.Core.Bool.{true, false}
+use mathlib.Core.Path.{refl, sym, ◌∙◌}
+use mathlib.Core.Bool.{false}
 use mathlib.Core.List.{[], ◌∷◌}
 use native.Mathlib.Omega.{arith}
 use lib.ListN.{get_or}
@@ -10,7 +10,6 @@ use Rattle.access.specs.Access.{read, write}
 use Rattle.answers.specs.Answers.{says}
 use Rattle.starts.proofs.Opened.{short, full, stored, unread}
 use Rattle.access.proofs.Stored.{six, six_length, second, third, fourth, fifth, sixth}
-use borrow.Author.Rules.{rules}
 use Rattle.starts.proofs.opening.write_opened.Goals as goal
 
 pub returns-then-words-lt1 : goal.returns-then-words-lt1

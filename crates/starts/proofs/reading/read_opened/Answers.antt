@@ -1,6 +1,6 @@
 -- `starts::reading::read_opened` meets its contract.
-use mathlib.Core.Path.{◌≡◌, refl, sym, ◌∙◌}
-use mathlib.Core.Bool.{true, false}
+use mathlib.Core.Path.{sym, ◌∙◌}
+use mathlib.Core.Bool.{true}
 use mathlib.Core.List.{[], ◌∷◌}
 use lib.ListN.{get_or}
 use Rattle.fields.specs.Layout.{CR2, RXDR}
@@ -8,7 +8,6 @@ use Rattle.fields.specs.Words.{starting, started, sadd16}
 use Rattle.access.specs.Access.{read, write}
 use Rattle.answers.specs.Answers.{says}
 use Rattle.starts.proofs.Opened.{short, unread}
-use borrow.Author.Rules.{rules}
 use Rattle.starts.proofs.reading.read_opened.Goals as goal
 
 pub returns-then-words-lt1 : goal.returns-then-words-lt1

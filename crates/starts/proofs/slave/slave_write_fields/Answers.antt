@@ -1,7 +1,7 @@
 -- `starts::slave::slave_write_fields` meets its contract.
-use mathlib.Core.Path.{◌≡◌, refl, sym, ◌∙◌}
+use mathlib.Core.Path.{refl, sym, ◌∙◌}
 use native.Mathlib.Omega.{arith}
-use mathlib.Core.Bool.{true, false}
+use mathlib.Core.Bool.{true}
 use mathlib.Core.List.{[]}
 use lib.ListN.{get_or}
 use Rattle.answers.specs.Answers.{says}
@@ -10,7 +10,6 @@ use Rattle.ending.specs.Call.{slave_write}
 use Rattle.ending.specs.Plan.{on_slave_write}
 use Rattle.ending.proofs.Outcomes.{outcome_12, outcome_of, bare, good_255}
 use Rattle.ending.proofs.Settling.{kept, gone}
-use borrow.Author.Rules.{rules}
 use Rattle.starts.proofs.slave.slave_write_fields.Goals as goal
 
 pub returns-then-impossible : goal.returns-then-impossible

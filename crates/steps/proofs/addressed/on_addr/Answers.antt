@@ -15,7 +15,6 @@ use Rattle.ending.specs.Link.{Link, link_at}
 use Rattle.ending.specs.Plan.{after, on_addr}
 use Rattle.ending.specs.Arms.{Tried}
 use Rattle.ending.proofs.Settling.{kept, gone}
-use borrow.Author.Rules.{rules}
 use Rattle.steps.proofs.addressed.on_addr.Goals as goal
 
 -- refused: the link stays, whether DIR is set or not

@@ -1,6 +1,5 @@
 -- `steps::addressed::told` meets its contract.
 use mathlib.Core.Path.{sym, ◌∙◌}
-use borrow.Author.Rules.{rules}
 use Rattle.steps.proofs.addressed.told.Goals as goal
 
 pub returns-then-is_set : goal.returns-then-is_set

@@ -1,5 +1,4 @@
 -- `steps::frame::cr2_written` meets its contract.
-use borrow.Author.Rules.{rules}
 use Rattle.steps.proofs.frame.cr2_written.Goals as goal
 
 pub returns : goal.returns

@@ -1,6 +1,5 @@
 -- `steps::frame::on_tc` meets its contract.
 use borrow.Author.Tests.{eq-eqb, ne_eqb}
-use borrow.Author.Rules.{rules}
 use Rattle.steps.proofs.frame.on_tc.Goals as goal
 
 pub returns-then-count-length : goal.returns-then-count-length

@@ -3,7 +3,6 @@ use mathlib.Core.Path.{refl}
 use Rattle.flag_order.specs.declared.Flag.TheVariants.{Tcr}
 use Rattle.ending.specs.Arms.{flag_plan}
 use Rattle.ending.proofs.Settling.{same}
-use borrow.Author.Rules.{rules}
 use Rattle.steps.proofs.frame.on_tcr.Goals as goal
 
 pub returns : goal.returns

@@ -1,6 +1,5 @@
 -- `steps::frame::raised` meets its contract.
 use borrow.Author.Tests.{lt-ltb, le-ltb}
-use borrow.Author.Rules.{rules}
 use Rattle.steps.proofs.frame.raised.Goals as goal
 
 pub returns-then-index-length : goal.returns-then-index-length

@@ -11,7 +11,6 @@ use Rattle.ending.specs.Plan.{after, on_tc_at}
 use Rattle.ending.proofs.Settling.{short}
 use Rattle.access.proofs.Stored.{four, second, third, fourth}
 use Rattle.steps.proofs.Written.{full, stored}
-use borrow.Author.Rules.{rules}
 use Rattle.steps.proofs.frame.second_half.Goals as goal
 
 pub returns-then-words-lt1 : goal.returns-then-words-lt1

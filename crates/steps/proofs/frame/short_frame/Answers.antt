@@ -8,7 +8,6 @@ use Rattle.access.specs.Access.{read}
 use Rattle.ending.specs.Link.{link_at}
 use Rattle.ending.specs.Plan.{after, on_tc_at}
 use Rattle.ending.proofs.Settling.{kept, gone}
-use borrow.Author.Rules.{rules}
 use Rattle.steps.proofs.frame.short_frame.Goals as goal
 
 pub returns-then-report-eq0 : goal.returns-then-report-eq0

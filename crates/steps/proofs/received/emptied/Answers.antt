@@ -1,5 +1,4 @@
 -- `steps::received::emptied` meets its contract.
-use borrow.Author.Rules.{rules}
 use Rattle.steps.proofs.received.emptied.Goals as goal
 
 pub returns : goal.returns

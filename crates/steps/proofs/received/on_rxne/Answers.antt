@@ -1,5 +1,5 @@
 -- `steps::received::on_rxne` meets its contract.
-use mathlib.Core.Path.{◌≡◌, refl, sym, ◌∙◌}
+use mathlib.Core.Path.{refl, sym, ◌∙◌}
 use native.Mathlib.Omega.{arith}
 use borrow.Author.Tests.{lt-ltb, le-ltb}
 use mathlib.Core.Bool.{true, false}
@@ -9,7 +9,6 @@ use Rattle.access.specs.Access.{read}
 use Rattle.ending.specs.Link.{link_at}
 use Rattle.ending.specs.Plan.{after, on_rxne, on_full}
 use Rattle.ending.proofs.Settling.{kept, gone, same}
-use borrow.Author.Rules.{rules}
 use Rattle.steps.proofs.received.on_rxne.Goals as goal
 
 pub returns-then-report-eq0 : goal.returns-then-report-eq0

@@ -17,7 +17,6 @@ use Rattle.ending.specs.Link.{Link, link_at}
 use Rattle.ending.specs.Plan.{after, on_stopf}
 use Rattle.ending.specs.Arms.{Tried}
 use Rattle.ending.proofs.Settling.{kept, gone}
-use borrow.Author.Rules.{rules}
 use Rattle.steps.proofs.sent.on_stopf.Goals as goal
 
 -- refused: the link stays, whether something was moved or not

@@ -9,7 +9,6 @@ use Rattle.access.specs.Access.{read}
 use Rattle.ending.specs.Link.{link_at}
 use Rattle.ending.specs.Plan.{after, on_txis}
 use Rattle.ending.proofs.Settling.{kept, gone}
-use borrow.Author.Rules.{rules}
 use Rattle.steps.proofs.sent.on_txis.Goals as goal
 
 pub returns-then-report-eq0 : goal.returns-then-report-eq0

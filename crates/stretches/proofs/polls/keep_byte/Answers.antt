@@ -1,7 +1,6 @@
 -- `stretches::polls::keep_byte` meets its contract.
 use mathlib.Core.Path.{sym}
 use lib.Seq.{set_out}
-use borrow.Author.Rules.{rules}
 use Rattle.stretches.proofs.polls.keep_byte.Goals as goal
 
 pub returns-then-place-receive : goal.returns-then-place-receive

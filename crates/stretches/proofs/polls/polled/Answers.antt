@@ -1,7 +1,6 @@
 -- `stretches::polls::polled` meets its contract.
 use mathlib.Core.Path.{sym, ◌∙◌}
 use Rattle.stretches.proofs.Puts.{put_fits, put_logs, put_not}
-use borrow.Author.Rules.{rules}
 use Rattle.stretches.proofs.polls.polled.Goals as goal
 
 pub returns-then-put_at : goal.returns-then-put_at

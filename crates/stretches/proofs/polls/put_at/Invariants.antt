@@ -1,13 +1,8 @@
 -- `stretches::polls::put_at` meets its contract: after i turns the first i entries stand in the log.
-use mathlib.Core.Path.{◌≡◌, refl, sym}
+use mathlib.Core.Path.{◌≡◌}
 use Prim.Native.Nat.{◌≤◌, ◌-◌, ◌+◌}
-use native.Mathlib.Omega.{arith}
-use native.Mathlib.Numerals.{add-one}
-use lib.ListN.{length, take, length-set}
-use lib.Seq.{sets, take-length}
-use borrow.Author.Rules.{rules}
-use borrow.Author.Tests.{le-leb, lt-leb}
-use Rattle.stretches.proofs.Puts.{sets_suc}
+use lib.ListN.{length, take}
+use lib.Seq.{sets}
 use Rattle.stretches.proofs.polls.put_at.Given as goal
 
 abbrev pub invariant-loop-i : goal.invariant-loop-i

@@ -1,16 +1,14 @@
 -- `stretches::stretch::receive_bytes` meets its contract: what it ensures is its invariant.
-use Prim.Native.Nat.{◌+◌, ◌-◌, ◌≤◌}
+use Prim.Native.Nat.{◌+◌, ◌≤◌}
 use mathlib.Core.Path.{refl, sym, ◌∙◌}
 use native.Mathlib.Omega.{arith}
 use lib.ListN.{length, length-set}
-use borrow.Author.Rules.{rules}
 use Rattle.wanted.specs.declared.Wanted.TheVariants.{Rxne}
 use Rattle.phases.specs.declared.Phase.TheVariants.{Wait}
 use Rattle.parked.proofs.Phases.{at_phase}
 use Rattle.runs.proofs.Phased.{wanted_in}
-use Rattle.stretches.specs.Stretches.{Receives}
 use Rattle.stretches.proofs.Carries.{carried_none}
-use Rattle.stretches.proofs.Moves.{moved, receive_one, idle, receives_on}
+use Rattle.stretches.proofs.Moves.{receive_one, idle, receives_on}
 use Rattle.stretches.proofs.stretch.receive_bytes.Goals as goal
 
 -- nothing is done where more words are taken than there are

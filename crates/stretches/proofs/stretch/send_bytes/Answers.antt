@@ -1,12 +1,9 @@
 -- `stretches::stretch::send_bytes` meets its contract: what it ensures is its invariant.
-use Prim.Native.Nat.{◌-◌}
 use mathlib.Core.Path.{refl, sym, ap, ◌∙◌}
 use native.Mathlib.Omega.{arith}
 use lib.ListN.{length}
-use borrow.Author.Rules.{rules}
-use Rattle.stretches.specs.Stretches.{Sends}
 use Rattle.stretches.proofs.Carries.{carried_none}
-use Rattle.stretches.proofs.Moves.{moved, send_one, idle_out, sends_on}
+use Rattle.stretches.proofs.Moves.{send_one, idle_out, sends_on}
 use Rattle.stretches.proofs.stretch.send_bytes.Goals as goal
 
 pub loop-sent-init : goal.loop-sent-init

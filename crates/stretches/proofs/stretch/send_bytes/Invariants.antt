@@ -1,12 +1,8 @@
 -- `stretches::stretch::send_bytes` meets its contract: what it ensures is its invariant.
 use Prim.Native.Nat.{◌-◌}
-use mathlib.Core.Path.{refl, sym, ap, ◌∙◌}
-use native.Mathlib.Omega.{arith}
 use lib.ListN.{length}
-use borrow.Author.Rules.{rules}
 use Rattle.stretches.specs.Stretches.{Sends}
-use Rattle.stretches.proofs.Carries.{carried_none}
-use Rattle.stretches.proofs.Moves.{moved, send_one, idle_out, sends_on}
+use Rattle.stretches.proofs.Moves.{moved}
 use Rattle.stretches.proofs.stretch.send_bytes.Given as goal
 
 abbrev pub invariant-loop-sent : goal.invariant-loop-sent

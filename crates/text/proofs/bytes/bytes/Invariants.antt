@@ -1,6 +1,5 @@
 -- `text::bytes::bytes` is safe and ends.
 use Prim.Native.Nat.{◌-◌, ◌≤◌}
-use borrow.Author.Rules.{rules}
 use Rattle.text.proofs.bytes.bytes.Given as goal
 
 abbrev pub invariant-loop-i : goal.invariant-loop-i

@@ -1,7 +1,6 @@
 -- `text::tokens::find` is safe and ends.
 use Prim.Native.Nat.{◌-◌, ◌≤◌}
 use lib.ListN.{length}
-use borrow.Author.Rules.{rules}
 use Rattle.text.proofs.tokens.find.Given as goal
 
 abbrev pub invariant-loop-i : goal.invariant-loop-i

@@ -1,7 +1,6 @@
 -- `text::tokens::which` is safe and ends.
 use Prim.Native.Nat.{◌-◌, ◌≤◌}
 use lib.ListN.{length}
-use borrow.Author.Rules.{rules}
 use Rattle.text.proofs.tokens.which.Given as goal
 
 abbrev pub invariant-loop-i : goal.invariant-loop-i

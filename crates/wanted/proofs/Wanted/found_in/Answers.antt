@@ -1,5 +1,5 @@
 -- `wanted::Wanted::found_in` meets its contract: each test is one of the definition's.
-use mathlib.Core.Path.{◌≡◌, sym, ◌∙◌}
+use mathlib.Core.Path.{sym, ◌∙◌}
 use Rattle.wanted.specs.Found.{found_in}
 use Rattle.wanted.proofs.Wanted.found_in.Goals as goal
 

@@ -1,5 +1,4 @@
 -- `wanted::Wanted::is_set` meets its contract.
-use borrow.Author.Rules.{rules}
 use Rattle.wanted.proofs.Wanted.is_set.Goals as goal
 
 pub returns-in-Txis : goal.returns-in-Txis

@@ -1,5 +1,4 @@
 -- `print::line::Line::number` is safe and ends.
-use Prim.Native.Nat.{◌≤◌}
 use native.Mathlib.Nat.{div-lt_self}
 use borrow.Author.Rules.{rules}
 use Rattle.print.proofs.line.Line.number.Goals as goal

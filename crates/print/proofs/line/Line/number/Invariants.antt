@@ -1,7 +1,5 @@
 -- `print::line::Line::number` is safe and ends.
 use Prim.Native.Nat.{◌≤◌}
-use native.Mathlib.Nat.{div-lt_self}
-use borrow.Author.Rules.{rules}
 use Rattle.print.proofs.line.Line.number.Given as goal
 
 abbrev pub invariant-loop-weight : goal.invariant-loop-weight
