@@ -9,6 +9,7 @@ It stops where two names would fall together.
 import glob
 import os
 import re
+import subprocess
 import sys
 
 TOKEN = re.compile(r"(?<![\w'«»-])[\w']+(?:-[\w']+)*(?![\w'-])")
@@ -20,7 +21,8 @@ HEAD = re.compile(r"^ *(?:(?:abbrev|unfoldable|opaque|private|pub|mutual) +)*((?
 MADE = re.compile(r"(?:returns|invariant|decreases|given|loop|overflow|bounds|nonzero|slice_bounds|offset_bounds|sub|mul|add|cast|prove|invariant_of|the)-")
 # Parameters, and names that an import gives.
 OTHERS = ["tenBits", "elevenBits", "startWord", "wantedOf", "comparedOf", "afterFoundOf", "settleAccesses"]
-LIBRARY = "/opt/rattle/rattle"
+# The library of the toolchain, beside the page that `rt doc` names.
+LIBRARY = os.path.join(os.path.dirname(subprocess.run(["rt", "doc"], capture_output=True, text=True, check=True).stdout.strip()), "rattle")
 
 
 def snake(name):
