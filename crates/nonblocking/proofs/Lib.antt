@@ -1,1 +1,5 @@
+pub mod Cells
+pub mod Lending
+pub mod Loans
 pub mod Promises
+pub mod Thin
