@@ -21,13 +21,14 @@ pub fn slave_addressed(words: &[u32], log: &mut [u32]) -> Report
             address: Isr::address_code(second),
             direction: Isr::direction(second),
         };
-        return settle(
+        settle(
             answer,
             2,
             &[Isr::READ, first, Isr::READ, second],
             words,
             log,
-        );
+        )
+    } else {
+        settle(Answer::Pending, 1, &[Isr::READ, first], words, log)
     }
-    settle(Answer::Pending, 1, &[Isr::READ, first], words, log)
 }

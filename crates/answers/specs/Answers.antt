@@ -1,5 +1,8 @@
 -- What an answer says in document 01: its number and its values.
 use Rattle.std.specs.Prelude.{ℕ, List, [], ◌∷◌}
+use Rattle.answers.specs.declared.I2cDirection.{I2cDirection}
+use Rattle.answers.specs.declared.I2cDirection.TheVariants.{MasterReadSlaveWrite, MasterWriteSlaveRead}
+use Rattle.answers.specs.declared.Refusal.{Refusal}
 use Rattle.answers.specs.declared.Answer.{Answer}
 use Rattle.answers.specs.declared.Answer.TheVariants.{Done, Pending, Nack, BusError, ArbitrationLost, IncorrectFrameSize, BadLength, NoRate, BadFilter, OutOfWords, LogFull, WrongCall, ImpossibleLink, Data, Addressed, Errors, Address, Bytes}
 
@@ -9,6 +12,11 @@ pub record Said : Type 0 where
 
 abbrev pub says : ℕ → List ℕ → Said
 says n xs = record { number = n; values = xs }
+
+-- who sends, by document 01's number
+abbrev pub direction_number : I2cDirection → ℕ
+direction_number MasterReadSlaveWrite = 0
+direction_number MasterWriteSlaveRead = 1
 
 -- Data, Addressed and what a getter answers have a letter in place of a number, and its code here: `D`, `A`, `E`, `N`, `G`
 abbrev pub said : Answer → Said
@@ -25,8 +33,18 @@ said OutOfWords = says 9 []
 said LogFull = says 10 []
 said WrongCall = says 11 []
 said ImpossibleLink = says 12 []
-said (Data address direction count) = says 0x44 (address ∷ direction ∷ count ∷ [])
-said (Addressed address direction) = says 0x41 (address ∷ direction ∷ [])
+said (Data address direction count) = says 0x44 (address ∷ direction_number direction ∷ count ∷ [])
+said (Addressed address direction) = says 0x41 (address ∷ direction_number direction ∷ [])
 said (Errors count) = says 0x45 (count ∷ [])
 said (Address address) = says 0x4E (address ∷ [])
 said (Bytes count) = says 0x47 (count ∷ [])
+
+-- the answer of a refusal
+abbrev pub answer_of : Refusal → Answer
+answer_of Refusal.BadLength = Answer.BadLength
+answer_of Refusal.NoRate = Answer.NoRate
+answer_of Refusal.BadFilter = Answer.BadFilter
+answer_of Refusal.OutOfWords = Answer.OutOfWords
+answer_of Refusal.LogFull = Answer.LogFull
+answer_of Refusal.WrongCall = Answer.WrongCall
+answer_of Refusal.ImpossibleLink = Answer.ImpossibleLink

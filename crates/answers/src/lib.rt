@@ -1,18 +1,29 @@
 // The answers of a call.
 #![tactic(auto)]
 
-ghost use Rattle.std.specs.Prelude.{◌≡◌};
-ghost use Rattle.answers.specs.Answers.{said};
+ghost use Rattle.std.specs.Prelude.{◌≡◌, [], ◌∷◌, get_or};
+ghost use Rattle.answers.specs.Answers.{said, answer_of};
 
-// Who sends, by the number that document 01 and the Rust's enum give it. An enum inside an answer would be spelled out at each
-// step of every proof that holds an answer.
-pub type I2cDirection = u8;
+// Who sends, in the order of document 01's numbers 0 and 1.
+#[derive(Clone, Copy, Debug, PartialEq, Eq)]
+pub enum I2cDirection {
+    MasterReadSlaveWrite,
+    MasterWriteSlaveRead,
+}
 
-pub const MASTER_READ_SLAVE_WRITE: I2cDirection = 0;
+// Why nothing, or nothing more, is done: the answers 6 to 12.
+#[derive(Clone, Copy, Debug, PartialEq, Eq)]
+pub enum Refusal {
+    BadLength,
+    NoRate,
+    BadFilter,
+    OutOfWords,
+    LogFull,
+    WrongCall,
+    ImpossibleLink,
+}
 
-pub const MASTER_WRITE_SLAVE_READ: I2cDirection = 1;
-
-#[derive(Clone, Copy)]
+#[derive(Clone, Copy, Debug, PartialEq, Eq)]
 pub enum Answer {
     Done,
     // Nothing to do yet, or more to come.
@@ -46,6 +57,22 @@ pub enum Answer {
     Bytes(usize),
 }
 
+impl From<Refusal> for Answer {
+    ghost from_gives = { λ refusal answer. answer ≡ answer_of refusal };
+
+    fn from(refusal: Refusal) -> Answer {
+        match refusal {
+            Refusal::BadLength => Answer::BadLength,
+            Refusal::NoRate => Answer::NoRate,
+            Refusal::BadFilter => Answer::BadFilter,
+            Refusal::OutOfWords => Answer::OutOfWords,
+            Refusal::LogFull => Answer::LogFull,
+            Refusal::WrongCall => Answer::WrongCall,
+            Refusal::ImpossibleLink => Answer::ImpossibleLink,
+        }
+    }
+}
+
 impl Answer {
     // The answer's number; for an answer that is printed with a letter the letter's code.
     pub fn number(self) -> u32
@@ -65,18 +92,40 @@ impl Answer {
             Answer::LogFull => 10,
             Answer::WrongCall => 11,
             Answer::ImpossibleLink => 12,
-            Answer::Data {
-                address: _,
-                direction: _,
-                count: _,
-            } => 0x44,
-            Answer::Addressed {
-                address: _,
-                direction: _,
-            } => 0x41,
+            Answer::Data { .. } => 0x44,
+            Answer::Addressed { .. } => 0x41,
             Answer::Errors(_) => 0x45,
             Answer::Address(_) => 0x4E,
             Answer::Bytes(_) => 0x47,
+        }
+    }
+
+    // Its values, as document 01 lists them; 0 where it has fewer than three.
+    pub fn values(self) -> [u64; 3]
+        ensures { result ≡ get_or (said self).values 0 0 ∷ get_or (said self).values 1 0 ∷ get_or (said self).values 2 0 ∷ [] }
+    {
+        match self {
+            Answer::IncorrectFrameSize(count) | Answer::Bytes(count) => [count as u64, 0, 0],
+            Answer::Data {
+                address,
+                direction,
+                count,
+            } => [address as u64, direction as u64, count as u64],
+            Answer::Addressed { address, direction } => [address as u64, direction as u64, 0],
+            Answer::Errors(count) => [count as u64, 0, 0],
+            Answer::Address(address) => [address as u64, 0, 0],
+            Answer::Done
+            | Answer::Pending
+            | Answer::Nack
+            | Answer::BusError
+            | Answer::ArbitrationLost
+            | Answer::BadLength
+            | Answer::NoRate
+            | Answer::BadFilter
+            | Answer::OutOfWords
+            | Answer::LogFull
+            | Answer::WrongCall
+            | Answer::ImpossibleLink => [0; 3],
         }
     }
 }

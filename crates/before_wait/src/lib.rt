@@ -31,10 +31,11 @@ pub fn after(opening: Opening, kind: Kind, word: u32) -> Phase
 fn started(kind: Kind, cr2: u32) -> Phase
     ensures { result ≡ cond (starting cr2) (Phase.Open Opening.Start) (Phase.Open (after_start kind)) }
 {
-    if Cr2::starting(cr2) {
-        return Phase::Open(Opening::Start);
-    }
-    Phase::Open(kind.after_start())
+    Phase::Open(if Cr2::starting(cr2) {
+        Opening::Start
+    } else {
+        kind.after_start()
+    })
 }
 
 // A byte that waits in RXDR is dropped.
@@ -42,7 +43,8 @@ fn flush_rxdr(isr: u32) -> Phase
     ensures { result ≡ cond (isr has RXNE) (Phase.Open Opening.Drop) Phase.Wait }
 {
     if Isr::RXNE.is_set(isr) {
-        return Phase::Open(Opening::Drop);
+        Phase::Open(Opening::Drop)
+    } else {
+        Phase::Wait
     }
-    Phase::Wait
 }

@@ -6,8 +6,7 @@ use mathlib.Core.List.{List, [], ◌∷◌, ◌++◌, map}
 use lib.ListN.{length, get_or}
 use Rattle.fields.specs.Field.{digit}
 use Rattle.config.specs.declared.Config.{Config}
-use Rattle.config.specs.declared.Setting.{Setting}
-use Rattle.config.specs.declared.Setting.TheVariants.{Unset, Set}
+use Rattle.std.specs.Prelude.{Some, None, unwrap_or}
 use Rattle.fields.specs.Layout.{Register, offset}
 use Rattle.config.specs.Config.{mask_number, plain, timing_bits, period}
 use Rattle.access.specs.Access.{entries}
@@ -24,12 +23,8 @@ driver_number non_blocking = 0
 driver_number blocking = 1
 
 -- the speed, the own address and whether it has ten bits, the second address and how many of its bits are masked
-abbrev speed_of : Setting → ℕ
-speed_of Unset = 0
-speed_of (Set speed) = speed
-
 abbrev config_numbers : Config → List ℕ
-config_numbers c = speed_of c.speed ∷ c.slave_address_1 ∷ digit c.address_11bits ∷ c.slave_address_2 ∷ mask_number c.slave_address_mask ∷ []
+config_numbers c = unwrap_or c.speed 0 ∷ c.slave_address_1 ∷ digit c.address_11bits ∷ c.slave_address_2 ∷ mask_number c.slave_address_mask ∷ []
 
 -- 1: `master_write`, with the address, the number of bytes and the first two of them; 2: a check; 3: `get_errors_reset`; the table has no other
 abbrev call_numbers : Call → List ℕ
@@ -93,7 +88,7 @@ unfolding table
 rows = refl
 
 -- What each kind of row is of: the timing word, the period, what construction writes to a register, and the answer or the log of a call.
-timing_row : (speed clock : ℕ) → gives (timing speed clock) ≡ (timing_bits (plain (Set speed) Unset) clock).number ∷ (timing_bits (plain (Set speed) Unset) clock).values
+timing_row : (speed clock : ℕ) → gives (timing speed clock) ≡ (timing_bits (plain (Some speed) None) clock).number ∷ (timing_bits (plain (Some speed) None) clock).values
 timing_row speed clock = refl
 
 period_row : (word : ℕ) → gives (scl_period word) ≡ period word ∷ []

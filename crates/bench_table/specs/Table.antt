@@ -1,7 +1,6 @@
 -- Document 01's bench table: one list of cases, with the numbers that each must give.
-use Rattle.std.specs.Prelude.{ℕ, ◌+◌, Bool, true, false, ◌&&◌, cond, List, [], ◌∷◌, eqb, replicate}
+use Rattle.std.specs.Prelude.{ℕ, ◌+◌, Bool, true, false, ◌&&◌, cond, Some, None, List, [], ◌∷◌, eqb, replicate}
 use Rattle.config.specs.declared.Config.{Config}
-use Rattle.config.specs.declared.Setting.TheVariants.{Unset, Set}
 use Rattle.config.specs.declared.SlaveAddressMask.TheVariants.{MaskOneBit}
 use Rattle.fields.specs.Layout.{Register, offset, OAR1, OAR2}
 use Rattle.access.specs.Access.{Settled, entries}
@@ -49,7 +48,7 @@ construction_log driver config = (construction driver config 16_000_000 (0 ∷ 0
 
 -- what the definitions say of a case
 abbrev pub gives : Case → List ℕ
-gives (timing speed clock) = in_numbers (timing_bits (plain (Set speed) Unset) clock)
+gives (timing speed clock) = in_numbers (timing_bits (plain (Some speed) None) clock)
 gives (scl_period word) = period word ∷ []
 gives (constructed driver config register) = beside (offset register + 0x100) (construction_log driver config)
 gives (answer before call) = in_numbers (outcome call (ran fresh before)).answer
@@ -57,10 +56,10 @@ gives (log before call) = entries (outcome call (ran fresh before)).accesses
 
 -- a configuration that has an own address, in ten bits or not; one that has a second address with one bit masked
 abbrev pub own : ℕ → Bool → Config
-own address ten_bits = with_own_address address ten_bits (plain (Set 100_000) Unset)
+own address ten_bits = with_own_address address ten_bits (plain (Some 100_000) None)
 
 abbrev pub second : ℕ → Config
-second address = with_second_address address MaskOneBit (plain (Set 100_000) Unset)
+second address = with_second_address address MaskOneBit (plain (Some 100_000) None)
 
 -- `master_write` to 0x50, where CR2 reads as this word; a check, where ISR reads as this word; `get_errors_reset`
 abbrev pub write : List ℕ → ℕ → Step

@@ -13,11 +13,9 @@ use Rattle.parked.specs.After.{answer}
 use Rattle.runs.specs.declared.Ran.{Ran}
 use Rattle.runs.specs.Run.{Outcome, stopped, joined, runs, Whole}
 use Rattle.runs.proofs.OneAccess.{joined-none}
-use Rattle.stretches.specs.declared.Turn.TheVariants.{Over}
 use Rattle.stretches.specs.declared.Progress.{Progress}
 use Rattle.stretches.specs.Stretches.{Going, Carried}
-use Rattle.blocking.specs.Steps.{Answered, Forward, Rest}
-use Rattle.blocking.proofs.OneTurn.{no_more, carried_step}
+use Rattle.blocking.specs.Steps.{Answered, Rest}
 
 pub going_none : (s ws start : List ℕ) (p : Parked) (b : List ℕ) → Going s ws start p b start p b 0 0
 going_none s ws start p b = record { kept = refl; run = rw sub-zero (joined-none (runs s (length start / 2) p b ws)) }
@@ -60,10 +58,8 @@ finish s ws start p₀ b₀ log p b a r hg hl h e k =
       buffer = refl;
     })
 
--- the rest of a run, where it ends with a turn that says that it is over
-pub ended : {s ws log₀ b₀ log b log' b' : List ℕ} {p₀ p r : Progress} {q : Ran} → Carried s ws log₀ b₀ p₀ log b p → Forward s ws log b p r log' b' → length log' ≡ length log → length b' ≡ length b
-    → (a : End) → r.turn ≡ Over a → Answered r a q → Rest s ws log₀ b₀ p₀ q log' b'
-ended {s} {ws} {log₀} {b₀} {log} {b} {log'} {b'} {p₀} {p} {r} {q} c f e k a h o =
-    λ start p₁ b₁ same g.
-    let d = carried_step c f e k in
-    finish s ws start p₁ b₁ log' r b' a q d.room (d.long ∙ sym same) (d.going start p₁ b₁ same g) (rw e (no_more f a h)) o
+-- the rest of a run, where no access follows
+pub ended : {s ws log₀ b₀ log b : List ℕ} {p₀ p : Progress} {q : Ran} → Carried s ws log₀ b₀ p₀ log b p → (a : End)
+    → runs s ((length log - p.logged) / 2) p.parked b (drop p.taken ws) ≡ stopped (answer a p.parked) p.parked b → Answered p a q → Rest s ws log₀ b₀ p₀ q log b
+ended {s} {ws} {log₀} {b₀} {log} {b} {p₀} {p} {q} c a e o =
+    λ start p₁ b₁ same g. finish s ws start p₁ b₁ log p b a q c.room (c.long ∙ sym same) (c.going start p₁ b₁ same g) e o

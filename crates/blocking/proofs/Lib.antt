@@ -1,4 +1,3 @@
-pub mod Bounds
 pub mod Finish
 pub mod OneTurn
 pub mod Wholes

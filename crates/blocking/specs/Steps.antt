@@ -1,57 +1,52 @@
 -- What the parts of a run promise: how one access carries it on, and what is returned where none follows.
-use Rattle.std.specs.Prelude.{ℕ, ◌+◌, ◌-◌, ◌/◌, ◌≤◌, ◌≡◌, List, length, take, drop}
+use Rattle.std.specs.Prelude.{ℕ, ◌+◌, ◌-◌, ◌/◌, ◌≤◌, ◌<◌, ◌≡◌, List, ◌∷◌, length, take, drop, Result, Ok, Err}
 use Rattle.answers.specs.Answers.{said}
 use Rattle.phases.specs.declared.End.{End}
-use Rattle.phases.specs.declared.Phase.TheVariants.{Transfer, Ended}
+use Rattle.phases.specs.declared.End.TheVariants.{LogFull}
 use Rattle.parked.specs.declared.Parked.{Parked}
-use Rattle.stretches.specs.declared.Turn.{Turn}
-use Rattle.stretches.specs.declared.Turn.TheVariants.{Again, Found, Over}
 use Rattle.stretches.specs.declared.Progress.{Progress}
 use Rattle.runs.specs.declared.Ran.{Ran}
 use Rattle.parked.specs.After.{answer}
 use Rattle.stretches.specs.Stretches.{Going}
-use Rattle.runs.specs.Run.{Outcome, stopped, joined, runs, room, Whole}
+use Rattle.runs.specs.Run.{stopped, joined, runs, room, Whole}
 
 -- what is returned where no access follows
 pub record Answered (p : Progress) (e : End) (r : Ran) : Type 0 where
-  pub answer : said r.answer ≡ answer e p.parked
+  pub answer : said r.report.answer ≡ answer e p.parked
   pub parked : r.parked ≡ p.parked
-  pub taken : r.taken ≡ p.taken
-  pub logged : r.logged ≡ p.logged
+  pub taken : r.report.taken ≡ p.taken
+  pub logged : r.report.logged ≡ p.logged
 
--- a turn that says the call is over tells why, and one that says the flag is found that a byte is next
-abbrev pub Told : Turn → Parked → Type 0
-Told Again p = p ≡ p
-Told Found p = p.phase ≡ Transfer
-Told (Over e) p = p.phase ≡ Ended e
-
--- an access was made, which took so many words
-pub record Stepped (p : Parked) (t : ℕ) (r : Progress) : Type 0 where
-  pub made : r ≡ record { turn = r.turn; parked = p; taken = t; logged = 2 }
-  pub told : Told r.turn p
-
--- an access was made, or the run stops here
-abbrev pub Ends : Turn → ℕ → ℕ → Outcome → Parked → List ℕ → Type 0
-Ends Again g g' q p b = g' ≡ g + 2
-Ends Found g g' q p b = (g' ≡ g + 2) × (p.phase ≡ Transfer)
-Ends (Over e) g g' q p b = q ≡ stopped (answer e p) p b
+-- an access is in the first two places of the log, or they are not there
+abbrev pub Entered : {X : Type 0} → ℕ → ℕ → List ℕ → Result X End → List ℕ → Type 0
+Entered o w log (Ok x) log' = (2 ≤ length log) × (log' ≡ o ∷ w ∷ drop 2 log)
+Entered o w log (Err e) log' = (e ≡ LogFull) × (length log < 2) × (log' ≡ log)
 
 -- one access over the words and the log that are left
 pub record Turned (s : List ℕ) (p : Parked) (b ws log : List ℕ) (r : Progress) (b' log' : List ℕ) : Type 0 where
   pub words : r.taken ≤ length ws
   pub room : r.logged ≤ length log
+  pub two : r.logged ≡ 2
   pub kept : drop r.logged log' ≡ drop r.logged log
   pub run : runs s (length log / 2) p b ws ≡ joined r.taken (take r.logged log') (runs s ((length log - r.logged) / 2) r.parked b' (drop r.taken ws))
-  pub ends : Ends r.turn 0 r.logged (runs s ((length log - r.logged) / 2) r.parked b' (drop r.taken ws)) r.parked b'
+
+-- an access was made, or the run stops here and nothing is done
+abbrev pub Made : List ℕ → Parked → List ℕ → List ℕ → List ℕ → Result Progress End → List ℕ → List ℕ → Type 0
+Made s p b ws log (Ok r) b' log' = Turned s p b ws log r b' log'
+Made s p b ws log (Err e) b' log' = (b' ≡ b) × (log' ≡ log) × (runs s (length log / 2) p b ws ≡ stopped (answer e p) p b)
 
 -- one access of a run
-pub record Forward (s ws log b : List ℕ) (p r : Progress) (log' b' : List ℕ) : Type 0 where
+pub record Onward (s ws log b : List ℕ) (p r : Progress) (log' b' : List ℕ) : Type 0 where
   pub words : r.taken ≤ length ws
   pub room : r.logged ≤ length log
-  pub more : p.logged ≤ r.logged
+  pub more : r.logged ≡ p.logged + 2
   pub going : (start : List ℕ) (p₀ : Parked) (b₀ : List ℕ) → length start ≡ length log
       → Going s ws start p₀ b₀ log p.parked b p.taken p.logged → Going s ws start p₀ b₀ log' r.parked b' r.taken r.logged
-  pub ends : Ends r.turn p.logged r.logged (runs s ((length log - r.logged) / 2) r.parked b' (drop r.taken ws)) r.parked b'
+
+-- it was made, or the run stops here and nothing is done
+abbrev pub Forward : List ℕ → List ℕ → List ℕ → List ℕ → Progress → Result Progress End → List ℕ → List ℕ → Type 0
+Forward s ws log b p (Ok r) log' b' = Onward s ws log b p r log' b'
+Forward s ws log b p (Err e) log' b' = (b' ≡ b) × (log' ≡ log) × (runs s ((length log - p.logged) / 2) p.parked b (drop p.taken ws) ≡ stopped (answer e p.parked) p.parked b)
 
 -- the rest of a run that is so far, wherever it started
 abbrev pub Rest : List ℕ → List ℕ → List ℕ → List ℕ → Progress → Ran → List ℕ → List ℕ → Type 0

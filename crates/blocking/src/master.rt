@@ -9,15 +9,13 @@ use runs::Ran;
 pub fn write(address: u8, bytes: &[u8], words: &[u32], log: &mut [u32]) -> Ran
     ensures { Whole (called Kind.Write address bytes.now (room log.old) [] words.now) log.old result log.new [] }
 {
-    let mut none = [0u8; 0];
-    begin(Kind::Write, address, bytes, &mut none, words, log)
+    begin(Kind::Write, address, bytes, &mut [], words, log)
 }
 
 pub fn read(address: u8, buffer: &mut [u8], words: &[u32], log: &mut [u32]) -> Ran
     ensures { Whole (called Kind.Read address [] (room log.old) buffer.old words.now) log.old result log.new buffer.new }
 {
-    let none = [0u8; 0];
-    begin(Kind::Read, address, &none, buffer, words, log)
+    begin(Kind::Read, address, &[], buffer, words, log)
 }
 
 pub fn write_read(

@@ -1,35 +1,34 @@
 // Running a call: until it is over or parks.
 ghost use Rattle.std.specs.Prelude.{◌≡◌};
+ghost use Rattle.access.specs.Reports.{report_of_refusal};
 ghost use Rattle.runs.specs.Run.{runs, outcome, called, resumed, room, Whole};
 
 use crate::turns::{answered, one_by_one};
-use answers::Answer;
+use access::Report;
+use answers::Refusal;
 use courses::course::follow;
 use parked::{End, Kind, Parked, Phase};
 use runs::Ran;
 use slices::first_left;
-use stretches::Turn;
 
 // The whole run of a call that is not wrong: as far as it follows plainly, and then whatever else comes.
 fn course(call: Parked, send: &[u8], receive: &mut [u8], words: &[u32], log: &mut [u32]) -> Ran
     ensures { Whole (runs send.now (room log.old) call receive.old words.now) log.old result log.new receive.new }
 {
-    let p = follow(call, send, receive, words, log);
-    let turn = p.turn;
-    if let Turn::Over(end) = turn {
-        return answered(p, end);
+    let followed = follow(call, send, receive, words, log);
+    match followed.end {
+        Some(end) => answered(followed.progress, end),
+        None => one_by_one(followed.progress, send, receive, words, log),
     }
-    one_by_one(p, send, receive, words, log)
 }
 
-fn refused(call: Parked, answer: Answer) -> Ran
-    ensures { result ≡ record { answer = answer; parked = call; taken = 0; logged = 0 } }
+// A call that makes no access.
+fn refused(call: Parked, refusal: Refusal) -> Ran
+    ensures { result ≡ record { parked = call; report = report_of_refusal refusal } }
 {
     Ran {
-        answer,
         parked: call,
-        taken: 0,
-        logged: 0,
+        report: Report::from(refusal),
     }
 }
 
@@ -38,9 +37,10 @@ pub fn run(call: Parked, send: &[u8], receive: &mut [u8], words: &[u32], log: &m
     ensures { Whole (outcome send.now (room log.old) call receive.old words.now) log.old result log.new receive.new }
 {
     if call.wrong(send.len(), receive.len()) {
-        return refused(call, Answer::WrongCall);
+        refused(call, Refusal::WrongCall)
+    } else {
+        course(call, send, receive, words, log)
     }
-    course(call, send, receive, words, log)
 }
 
 // Resumes a parked call with the rest of the words, from the first one not taken.
@@ -70,24 +70,21 @@ pub fn begin(
 ) -> Ran
     ensures { Whole (called kind address send.now (room log.old) receive.old words.now) log.old result log.new receive.new }
 {
-    if kind.lengths(send.len(), receive.len()) {
-        let begun = Parked {
-            kind,
-            address,
-            send: send.len(),
-            receive: receive.len(),
-            phase: kind.opening(),
-            count: 0,
-        };
-        return course(begun, send, receive, words, log);
-    }
-    let ended = Parked {
+    let begun = Parked {
         kind,
         address,
         send: send.len(),
         receive: receive.len(),
-        phase: Phase::Ended(End::BadLength),
+        phase: kind.opening(),
         count: 0,
     };
-    refused(ended, Answer::BadLength)
+    if kind.lengths(send.len(), receive.len()) {
+        course(begun, send, receive, words, log)
+    } else {
+        let ended = Parked {
+            phase: Phase::Ended(End::BadLength),
+            ..begun
+        };
+        refused(ended, Refusal::BadLength)
+    }
 }

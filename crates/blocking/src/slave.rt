@@ -10,21 +10,17 @@ use runs::Ran;
 pub fn slave_write(bytes: &[u8], words: &[u32], log: &mut [u32]) -> Ran
     ensures { Whole (called Kind.SlaveWrite 0 bytes.now (room log.old) [] words.now) log.old result log.new [] }
 {
-    let mut none = [0u8; 0];
-    begin(Kind::SlaveWrite, 0, bytes, &mut none, words, log)
+    begin(Kind::SlaveWrite, 0, bytes, &mut [], words, log)
 }
 
 pub fn slave_read(buffer: &mut [u8], words: &[u32], log: &mut [u32]) -> Ran
     ensures { Whole (called Kind.SlaveRead 0 [] (room log.old) buffer.old words.now) log.old result log.new buffer.new }
 {
-    let none = [0u8; 0];
-    begin(Kind::SlaveRead, 0, &none, buffer, words, log)
+    begin(Kind::SlaveRead, 0, &[], buffer, words, log)
 }
 
 pub fn slave_wait_addressed(words: &[u32], log: &mut [u32]) -> Ran
     ensures { Whole (called Kind.SlaveWaitAddressed 0 [] (room log.old) [] words.now) log.old result log.new [] }
 {
-    let empty = [0u8; 0];
-    let mut none = [0u8; 0];
-    begin(Kind::SlaveWaitAddressed, 0, &empty, &mut none, words, log)
+    begin(Kind::SlaveWaitAddressed, 0, &[], &mut [], words, log)
 }

@@ -1,84 +1,62 @@
 // One access of a run, over the words and the log that are left.
-ghost use Rattle.std.specs.Prelude.{◌≡◌};
-ghost use Rattle.blocking.specs.Steps.{Told, Stepped, Turned};
+ghost use Rattle.std.specs.Prelude.{◌≡◌, cond, set};
+ghost use Rattle.fields.specs.Words.{received};
+ghost use Rattle.blocking.specs.Steps.{Entered, Made};
 
-use parked::{End, Next, Parked, Phase};
+use data_registers::Rxdr;
+use parked::{End, Next, Parked};
+use settling::write_log;
 use slices::byte_at;
-use stretches::polls::keep_byte;
-use stretches::{Progress, Turn};
+use stretches::Progress;
 
-fn turn(call: Parked) -> Turn
-    ensures { Told result call }
+// An access to the log, which parks the call where it has no room.
+fn enter(number: u32, word: u32, log: &mut [u32]) -> Result<(), End>
+    ensures { Entered number word log.old result log.new }
 {
-    let phase = call.phase;
-    if let Phase::Ended(end) = phase {
-        return Turn::Over(end);
-    }
-    if let Phase::Transfer = phase {
-        return Turn::Found;
-    }
-    Turn::Again
-}
-
-// An access was made: the call after it, with the words that it took.
-fn stepped(after: Parked, taken: usize) -> Progress
-    ensures { Stepped after taken result }
-{
-    Progress {
-        turn: turn(after),
-        parked: after,
-        taken,
-        logged: 2,
+    if write_log(log, &[number, word]) {
+        Ok(())
+    } else {
+        Err(End::LogFull)
     }
 }
 
-// No access is made: the call is over, or parks.
-fn over(call: Parked, end: End) -> Progress
-    ensures { result ≡ record { turn = Turn.Over end; parked = call; taken = 0; logged = 0 } }
+// A byte that came in goes to its place.
+fn keep_byte(keep: bool, place: usize, word: u32, receive: &mut [u8])
+    ensures { receive.new ≡ cond keep (set receive.old place (received word)) receive.old }
 {
-    Progress {
-        turn: Turn::Over(end),
-        parked: call,
-        taken: 0,
-        logged: 0,
+    if keep && place < receive.len() {
+        receive[place] = Rxdr::received(word);
     }
 }
 
-// One access, over the words and the log that are left.
+// One access: the call after it, with the words that it took and the places of the log that it filled; or why none is made.
 pub(crate) fn advance(
     call: Parked,
     send: &[u8],
     receive: &mut [u8],
     words: &[u32],
     log: &mut [u32],
-) -> Progress
-    ensures { Turned send.now call receive.old words.now log.old result receive.new log.new }
+) -> Result<Progress, End>
+    ensures { Made send.now call receive.old words.now log.old result receive.new log.new }
 {
-    let count = call.count;
-    let byte = byte_at(send, count);
-    let next = call.wants(byte);
-    match next {
-        Next::Over(end) => over(call, end),
-        Next::Read(number, keep) => {
-            if words.len() == 0 {
-                return over(call, End::OutOfWords);
-            }
-            if log.len() < 2 {
-                return over(call, End::LogFull);
-            }
-            let word = words[0];
-            log[0] = number;
-            log[1] = word;
-            keep_byte(keep, count, word, receive);
-            stepped(call.after(word), 1)
+    match call.wants(byte_at(send, call.count))? {
+        Next::Read { number, keep } => {
+            let word = words.first().copied().ok_or(End::OutOfWords)?;
+            enter(number, word, log)?;
+            keep_byte(keep, call.count, word, receive);
+            Ok(Progress {
+                parked: call.after(word),
+                taken: 1,
+                logged: 2,
+            })
         }
-        Next::Write(number, word) => {
-            if log.len() < 2 {
-                return over(call, End::LogFull);
-            }
-            log[0] = number;
-            log[1] = word;
-            stepped(call.after(0), 0)
+        Next::Write { number, word } => {
+            enter(number, word, log)?;
+            Ok(Progress {
+                parked: call.after(0),
+                taken: 0,
+                logged: 2,
+            })
         }
     }
 }

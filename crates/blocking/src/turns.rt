@@ -3,39 +3,47 @@ ghost use Rattle.std.specs.Prelude.{◌≤◌, length};
 ghost use Rattle.blocking.specs.Steps.{Answered, Forward, Rest};
 
 use crate::step::advance;
-use parked::End;
+use access::Report;
+use parked::{End, Phase};
 use runs::Ran;
-use stretches::{Progress, Turn};
+use stretches::Progress;
 
-// One access of a run, over the words from the first one not taken and the log from its first free place.
-fn forward(p: Progress, send: &[u8], receive: &mut [u8], words: &[u32], log: &mut [u32]) -> Progress
+// One access of a run, over the words from the first one not taken and the log from its first free place; or why none is made.
+fn forward(
+    p: Progress,
+    send: &[u8],
+    receive: &mut [u8],
+    words: &[u32],
+    log: &mut [u32],
+) -> Result<Progress, End>
     requires { (p.taken ≤ length words.now) × (p.logged ≤ length log.old) }
     ensures { Forward send.now words.now log.old receive.old p result log.new receive.new }
 {
-    let taken = p.taken;
-    let logged = p.logged;
-    let call = p.parked;
-    let step = advance(call, send, receive, &words[taken..], &mut log[logged..]);
-    let turn = step.turn;
-    let parked = step.parked;
-    Progress {
-        turn,
-        parked,
-        taken: taken + step.taken,
-        logged: logged + step.logged,
-    }
+    let step = advance(
+        p.parked,
+        send,
+        receive,
+        &words[p.taken..],
+        &mut log[p.logged..],
+    )?;
+    Ok(Progress {
+        parked: step.parked,
+        taken: p.taken + step.taken,
+        logged: p.logged + step.logged,
+    })
 }
 
 // What a run returns where no access follows.
 pub(crate) fn answered(p: Progress, end: End) -> Ran
     ensures { Answered p end result }
 {
-    let parked = p.parked;
     Ran {
-        answer: parked.answer(end),
-        parked,
-        taken: p.taken,
-        logged: p.logged,
+        parked: p.parked,
+        report: Report {
+            answer: p.parked.answer(end),
+            taken: p.taken,
+            logged: p.logged,
+        },
     }
 }
 
@@ -55,12 +63,12 @@ pub(crate) fn one_by_one(
         // From the second round on the first access sends or receives the byte that the last wait found; then the call waits for the next flag.
         // STOPF, ADDR, BERR and ARLO end the whole call, and so does a missing word or room.
         loop {
-            p = forward(p, send, receive, words, log);
-            let turn = p.turn;
-            match turn {
-                Turn::Again => {}
-                Turn::Found => break,
-                Turn::Over(end) => break 'transfer answered(p, end),
+            match forward(p, send, receive, words, log) {
+                Ok(next) => p = next,
+                Err(end) => break 'transfer answered(p, end),
+            }
+            if p.parked.phase == Phase::Transfer {
+                break;
             }
         }
     }

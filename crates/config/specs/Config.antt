@@ -1,17 +1,15 @@
 -- The configuration: what the constructors and the setters make, the timing word, and its SCL period.
-use Rattle.std.specs.Prelude.{ℕ, ◌+◌, ◌-◌, ◌*◌, ◌/◌, min, Bool, true, false, cond, [], ◌∷◌, eqb, ltb}
+use Rattle.std.specs.Prelude.{ℕ, ◌+◌, ◌-◌, ◌*◌, ◌/◌, min, Bool, true, false, cond, Option, None, Some, Result, Ok, Err, List, [], ◌∷◌, get_or, eqb, ltb}
 use Rattle.config.specs.declared.Config.{Config}
-use Rattle.config.specs.declared.Setting.{Setting}
-use Rattle.config.specs.declared.Setting.TheVariants.{Unset, Set}
-use Rattle.config.specs.declared.Timing.{Timing}
-use Rattle.config.specs.declared.Timing.TheVariants.{Bits, NoRate}
 use Rattle.config.specs.declared.SlaveAddressMask.{SlaveAddressMask}
 use Rattle.config.specs.declared.SlaveAddressMask.TheVariants.{MaskNone, MaskOneBit, MaskTwoBits, MaskThreeBits, MaskFourBits, MaskFiveBits, MaskSixBits, MaskAllBits}
 use Rattle.limits.specs.Limits.{filter_allowed}
 use Rattle.speeds.specs.declared.Mode.{Mode}
 use Rattle.speeds.specs.Speeds.{mode_of}
 use Rattle.fields.specs.Layout.{SCLL, SCLH, SDADEL, SCLDEL, PRESC, ◌⟨◌≔◌⟩, ◌⟨◌⟩}
-use Rattle.answers.specs.Answers.{Said, says}
+use Rattle.answers.specs.declared.Refusal.{Refusal}
+use Rattle.answers.specs.declared.Refusal.TheVariants.{BadFilter}
+use Rattle.answers.specs.Answers.{Said, says, said, answer_of}
 
 abbrev pub mask_number : SlaveAddressMask → ℕ
 mask_number MaskNone = 0
@@ -23,8 +21,15 @@ mask_number MaskFiveBits = 5
 mask_number MaskSixBits = 6
 mask_number MaskAllBits = 7
 
+abbrev pub masks : List SlaveAddressMask
+masks = MaskNone ∷ MaskOneBit ∷ MaskTwoBits ∷ MaskThreeBits ∷ MaskFourBits ∷ MaskFiveBits ∷ MaskSixBits ∷ []
+
+-- 7 and above: all bits
+abbrev pub mask_of : ℕ → SlaveAddressMask
+mask_of n = get_or masks n MaskAllBits
+
 -- a configuration with a speed or a timing, and nothing else set
-abbrev pub plain : Setting → Setting → Config
+abbrev pub plain : Option ℕ → Option ℕ → Config
 plain speed timing = record {
   speed = speed;
   timing = timing;
@@ -74,6 +79,13 @@ with_second_address address mask c = record {
 }
 
 -- the setter of the digital filter takes 0 to 16, and answers 8 above; the configuration is then as it was
+abbrev pub filtered : ℕ → Config → Result Config Refusal
+filtered cycles c = cond (filter_allowed cycles) (Ok (with_filters c.analog_filter cycles c)) (Err BadFilter)
+
+abbrev pub said_filtered : Result Config Refusal → Said
+said_filtered (Ok c) = says 0 []
+said_filtered (Err refusal) = said (answer_of refusal)
+
 abbrev pub filter_answer : ℕ → Said
 filter_answer cycles = cond (filter_allowed cycles) (says 0 []) (says 8 [])
 
@@ -98,21 +110,21 @@ at_quotient m q = cond (ltb q m.least) (says 7 []) (says 0 (mode_word m (min (q 
 abbrev pub at_speed : ℕ → ℕ → Said
 at_speed clock speed = cond (eqb speed 0) (says 7 []) (at_quotient (mode_of speed) (quotient clock (mode_of speed).presc speed))
 
-abbrev pub from_speed : Setting → ℕ → Said
-from_speed Unset clock = says 7 []
-from_speed (Set speed) clock = at_speed clock speed
+abbrev pub from_speed : Option ℕ → ℕ → Said
+from_speed None clock = says 7 []
+from_speed (Some speed) clock = at_speed clock speed
 
-abbrev pub from_timing : Setting → Setting → ℕ → Said
-from_timing (Set word) speed clock = says 0 (word ∷ [])
-from_timing Unset speed clock = from_speed speed clock
+abbrev pub from_timing : Option ℕ → Option ℕ → ℕ → Said
+from_timing (Some word) speed clock = says 0 (word ∷ [])
+from_timing None speed clock = from_speed speed clock
 
 -- `timing_bits`: an explicit timing as given, else the word for the speed
 unfoldable pub timing_bits : Config → ℕ → Said
 timing_bits c clock = from_timing c.timing c.speed clock
 
-abbrev pub said_timing : Timing → Said
-said_timing (Bits word) = says 0 (word ∷ [])
-said_timing NoRate = says 7 []
+abbrev pub said_timing : Result ℕ Refusal → Said
+said_timing (Ok word) = says 0 (word ∷ [])
+said_timing (Err refusal) = said (answer_of refusal)
 
 -- the SCL period of a timing word, in clock cycles
 unfoldable pub period : ℕ → ℕ

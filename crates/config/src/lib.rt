@@ -1,17 +1,16 @@
 // The configuration, its timing word, and the SCL period.
 #![tactic(auto)]
 
-ghost use Rattle.std.specs.Prelude.{◌≡◌, true, false, ◌<◌, ◌≤◌, min};
-ghost use Rattle.answers.specs.Answers.{said};
-ghost use Rattle.config.specs.Config.{mask_number, plain, with_filters, with_own_address, with_second_address, filter_answer, with_filter, mode_word, at_quotient, at_speed, timing_bits, said_timing, period};
+ghost use Rattle.std.specs.Prelude.{◌≡◌, true, false, ◌<◌, ◌≤◌, None, Some, IfErr};
+ghost use Rattle.config.specs.Config.{mask_number, mask_of, plain, with_filters, with_own_address, with_second_address, filtered, mode_word, at_quotient, at_speed, timing_bits, said_timing, period};
 
-use answers::Answer;
+use answers::Refusal;
 use fields::Field;
 use limits::filter_allowed;
 use speeds::Mode;
 
 // How many of the low bits of the second address are not compared.
-#[derive(Clone, Copy)]
+#[derive(Clone, Copy, Debug, PartialEq, Eq)]
 pub enum SlaveAddressMask {
     MaskNone,
     MaskOneBit,
@@ -27,50 +26,38 @@ impl SlaveAddressMask {
     pub fn number(self) -> u32
         ensures { result ≡ mask_number self }
     {
-        match self {
-            SlaveAddressMask::MaskNone => 0,
-            SlaveAddressMask::MaskOneBit => 1,
-            SlaveAddressMask::MaskTwoBits => 2,
-            SlaveAddressMask::MaskThreeBits => 3,
-            SlaveAddressMask::MaskFourBits => 4,
-            SlaveAddressMask::MaskFiveBits => 5,
-            SlaveAddressMask::MaskSixBits => 6,
-            SlaveAddressMask::MaskAllBits => 7,
+        self as u32
+    }
+}
+
+// A mask by its number. Every number is taken: 7 and above are all bits.
+impl From<u32> for SlaveAddressMask {
+    ghost from_gives = { λ number mask. mask ≡ mask_of number };
+
+    fn from(number: u32) -> SlaveAddressMask {
+        match number {
+            0 => SlaveAddressMask::MaskNone,
+            1 => SlaveAddressMask::MaskOneBit,
+            2 => SlaveAddressMask::MaskTwoBits,
+            3 => SlaveAddressMask::MaskThreeBits,
+            4 => SlaveAddressMask::MaskFourBits,
+            5 => SlaveAddressMask::MaskFiveBits,
+            6 => SlaveAddressMask::MaskSixBits,
+            _ => SlaveAddressMask::MaskAllBits,
         }
     }
 }
 
-// A number that may be set or not.
-#[derive(Clone, Copy)]
-pub enum Setting {
-    Unset,
-    Set(u32),
-}
-
-#[derive(Clone, Copy)]
+#[derive(Clone, Copy, Debug, PartialEq, Eq)]
 pub struct Config {
-    pub speed: Setting,
-    pub timing: Setting,
+    pub speed: Option<u32>,
+    pub timing: Option<u32>,
     pub analog_filter: bool,
     pub digital_filter: u8,
     pub slave_address_1: u16,
     pub address_11bits: bool,
     pub slave_address_2: u8,
     pub slave_address_mask: SlaveAddressMask,
-}
-
-// What the setter of the digital filter answers, with the configuration.
-#[derive(Clone, Copy)]
-pub struct Filtered {
-    pub answer: Answer,
-    pub config: Config,
-}
-
-// The word for TIMINGR, or that the clock is too slow for the speed or no speed is set.
-#[derive(Clone, Copy)]
-pub enum Timing {
-    Bits(u32),
-    NoRate,
 }
 
 // The five fields of a timing word.
@@ -85,28 +72,25 @@ fn timing_word(mode: Mode, scll: u32) -> u32
     Config::SCLL.put(sclh, scll)
 }
 
-fn at_quotient(mode: Mode, q: u32) -> Timing
+// The quotient of clock and speed is too small where the clock is too slow for the speed.
+fn at_quotient(mode: Mode, q: u32) -> Result<u32, Refusal>
     requires { (mode.shorter < mode.least) × (mode.shorter ≤ 255) }
-    ensures { said_timing result ≡ at_quotient mode q }
+    ensures word { said_timing result ≡ at_quotient mode q }
+    ensures no_rate { IfErr result (λ refusal. refusal ≡ Refusal.NoRate) }
 {
     if q < mode.least {
-        return Timing::NoRate;
+        return Err(Refusal::NoRate);
     }
-    Timing::Bits(timing_word(mode, min(q - 1, 255)))
-}
-
-fn min(a: u32, b: u32) -> u32
-    ensures { result ≡ min a b }
-{
-    if a < b { a } else { b }
+    Ok(timing_word(mode, (q - 1).min(255)))
 }
 
 // The timing word for a speed.
-fn at_speed(clock: u32, speed: u32) -> Timing
-    ensures { said_timing result ≡ at_speed clock speed }
+fn at_speed(clock: u32, speed: u32) -> Result<u32, Refusal>
+    ensures word { said_timing result ≡ at_speed clock speed }
+    ensures no_rate { IfErr result (λ refusal. refusal ≡ Refusal.NoRate) }
 {
     if speed == 0 {
-        return Timing::NoRate;
+        return Err(Refusal::NoRate);
     }
     let mode = Mode::of(speed);
     at_quotient(mode, clock / 2 / (mode.presc + 1) / speed)
@@ -132,33 +116,33 @@ impl Config {
         width: 4,
     };
 
+    // Nothing set but the analog filter.
+    const PLAIN: Config = Config {
+        speed: None,
+        timing: None,
+        analog_filter: true,
+        digital_filter: 0,
+        slave_address_1: 0,
+        address_11bits: false,
+        slave_address_2: 0,
+        slave_address_mask: SlaveAddressMask::MaskNone,
+    };
+
     pub fn new(speed: u32) -> Self
-        ensures { result ≡ plain (Setting.Set speed) Setting.Unset }
+        ensures { result ≡ plain (Some speed) None }
     {
         Config {
-            speed: Setting::Set(speed),
-            timing: Setting::Unset,
-            analog_filter: true,
-            digital_filter: 0,
-            slave_address_1: 0,
-            address_11bits: false,
-            slave_address_2: 0,
-            slave_address_mask: SlaveAddressMask::MaskNone,
+            speed: Some(speed),
+            ..Config::PLAIN
         }
     }
 
     pub fn with_timing(timing: u32) -> Self
-        ensures { result ≡ plain Setting.Unset (Setting.Set timing) }
+        ensures { result ≡ plain None (Some timing) }
     {
         Config {
-            timing: Setting::Set(timing),
-            speed: Setting::Unset,
-            analog_filter: true,
-            digital_filter: 0,
-            slave_address_1: 0,
-            address_11bits: false,
-            slave_address_2: 0,
-            slave_address_mask: SlaveAddressMask::MaskNone,
+            timing: Some(timing),
+            ..Config::PLAIN
         }
     }
 
@@ -169,21 +153,15 @@ impl Config {
         self
     }
 
-    // 0 to 16 cycles; 16 leaves 0 in DNF.
-    pub fn enable_digital_filter(mut self, cycles: u8) -> Filtered
-        ensures { (said result.answer ≡ filter_answer cycles) × (result.config ≡ with_filter cycles self) }
+    // 0 to 16 cycles; 16 leaves 0 in DNF. Where the number is refused the caller's configuration is as it was.
+    pub fn enable_digital_filter(mut self, cycles: u8) -> Result<Config, Refusal>
+        ensures { result ≡ filtered cycles self }
     {
-        if filter_allowed(cycles) {
-            self.digital_filter = cycles;
-            return Filtered {
-                answer: Answer::Done,
-                config: self,
-            };
+        if !filter_allowed(cycles) {
+            return Err(Refusal::BadFilter);
         }
-        Filtered {
-            answer: Answer::BadFilter,
-            config: self,
-        }
+        self.digital_filter = cycles;
+        Ok(self)
     }
 
     // Slave address 1 as 7 bit address, in range 0 .. 127.
@@ -205,39 +183,28 @@ impl Config {
     }
 
     // Slave address 2 as 7 bit address in range 0 .. 127. All slaves within the mask are addressable.
-    pub fn slave_address_2(self, own_address: u8, mask: SlaveAddressMask) -> Self
+    pub fn slave_address_2(mut self, own_address: u8, mask: SlaveAddressMask) -> Self
         ensures { result ≡ with_second_address own_address mask self }
     {
-        let speed = self.speed;
-        let timing = self.timing;
-        Config {
-            speed,
-            timing,
-            analog_filter: self.analog_filter,
-            digital_filter: self.digital_filter,
-            slave_address_1: self.slave_address_1,
-            address_11bits: self.address_11bits,
-            slave_address_2: own_address,
-            slave_address_mask: mask,
-        }
+        self.slave_address_2 = own_address;
+        self.slave_address_mask = mask;
+        self
     }
 
     // The word for TIMINGR: an explicit timing as given, else the one for the speed.
-    pub fn timing_bits(self, clock: u32) -> Timing
-        ensures { said_timing result ≡ timing_bits self clock }
+    #[tactic(auto, unfolding(crate::specs::Config::timing_bits))]
+    pub fn timing_bits(self, clock: u32) -> Result<u32, Refusal>
+        ensures word { said_timing result ≡ timing_bits self clock }
+        ensures no_rate { IfErr result (λ refusal. refusal ≡ Refusal.NoRate) }
     {
-        let timing = self.timing;
-        let speed = self.speed;
-        match timing {
-            Setting::Set(bits) => Timing::Bits(bits),
-            Setting::Unset => match speed {
-                Setting::Set(hertz) => at_speed(clock, hertz),
-                Setting::Unset => Timing::NoRate,
-            },
+        if let Some(bits) = self.timing {
+            return Ok(bits);
         }
+        at_speed(clock, self.speed.ok_or(Refusal::NoRate)?)
     }
 
     // The SCL period of a timing word, in clock cycles.
+    #[tactic(auto, unfolding(crate::specs::Config::period))]
     pub fn scl_period(word: u32) -> u32
         ensures { result ≡ period word }
     {

@@ -1,7 +1,6 @@
 -- Construction. It is the same in both drivers, but for the OAR1 word that is handed in.
 use Rattle.std.specs.Prelude.{ℕ, Bool, true, false, cond, List, [], ◌∷◌, ◌++◌, ltb, length, get_or}
 use Rattle.config.specs.declared.Config.{Config}
-use Rattle.construction.specs.declared.Written.{Written}
 use Rattle.fields.specs.Layout.{Register, CR1, OAR1, OAR2, TIMINGR}
 use Rattle.fields.specs.Words.{powered, configured, byte_control, own_second}
 use Rattle.access.specs.Access.{Access, read, write, Settled, refusal, settled}
@@ -43,6 +42,6 @@ own false true = 1
 own true false = 1
 own true true = 2
 
-abbrev pub first_written : Bool → ℕ → ℕ → Written
-first_written true oar1 oar2 = record { number = 0x108; word = oar1 }
-first_written false oar1 oar2 = record { number = 0x10C; word = oar2 }
+abbrev pub first_written : Bool → ℕ → ℕ → ℕ × ℕ
+first_written true oar1 oar2 = (0x108, oar1)
+first_written false oar1 oar2 = (0x10C, oar2)

@@ -7,6 +7,7 @@ use native.Mathlib.Omega.{arith}
 use lib.ListN.{length, get_or, set}
 use lib.Seq.{sets}
 use borrow.Author.Tests.{le-ltb}
+use Rattle.std.specs.Prelude.{Ok, Some}
 use Rattle.wanted.specs.declared.Wanted.{Wanted}
 use Rattle.wanted.specs.declared.Wanted.TheVariants.{Txis, Rxne, Tc}
 use Rattle.wanted.specs.declared.Found.TheVariants.{Stopf as MetStopf}
@@ -26,11 +27,11 @@ use Rattle.parked.specs.Wants.{more, wants_at}
 use Rattle.parked.specs.After.{wanted, after_found, phase_at, turns, moves, after}
 use Rattle.phases.specs.Phases.{role}
 use Rattle.parked.proofs.Phases.{at_phase, wants_at_lem}
-use Rattle.stretches.specs.Stretches.{Carried, waiting}
+use Rattle.stretches.specs.Stretches.{Carried}
 use Rattle.stretches.proofs.Carries.{carried_on}
 use Rattle.runs.proofs.Phased.{more_out, met}
 use Rattle.stretches.proofs.Accesses.{on, reads, writes}
-use Rattle.stretches.proofs.Moves.{moved, comes}
+use Rattle.stretches.proofs.Moves.{stays_at}
 
 after_other : (p : Parked) (w : ℕ) (f : Phase) → role p.phase ≡ Other → phase_at p.phase p w ≡ f → after p w ≡ at_phase p f p.count
 unfolding after turns moves
@@ -38,13 +39,13 @@ after_other p w f e h = rw (e, h)
 
 -- an access that only the phase tells of
 module _ (s ws log b : List ℕ) (p : Parked) (n : ℕ) (f f' : Phase) (t g g' t' : ℕ) (hg : g + 2 ≤ length log) (eg : g' ≡ g + 2) (r : role f ≡ Other) where
-  pub other_read : (o : ℕ) → ((byte : ℕ) → wants_at f (at_phase p f n) byte ≡ ReadA o false) → phase_at f (at_phase p f n) (get_or ws t 0) ≡ f' → t < length ws → t' ≡ t + 1
+  pub other_read : (o : ℕ) → ((byte : ℕ) → wants_at f (at_phase p f n) byte ≡ Ok (ReadA o false)) → phase_at f (at_phase p f n) (get_or ws t 0) ≡ f' → t < length ws → t' ≡ t + 1
       → Carried s ws log b (on (at_phase p f n) t g) (sets log g (o ∷ get_or ws t 0 ∷ [])) b (on (at_phase p f' n) t' g')
   other_read o e h ht et =
       subst (λ (q : Parked). Carried s ws log b (on (at_phase p f n) t g) (sets log g (o ∷ get_or ws t 0 ∷ [])) b (on q t' g')) (after_other (at_phase p f n) (get_or ws t 0) f' r h)
       (reads s ws log b (at_phase p f n) t g g' t' hg eg o false (wants_at_lem (at_phase p f n) _ f refl ∙ e _) ht et)
 
-  pub other_write : (o w : ℕ) → ((byte : ℕ) → wants_at f (at_phase p f n) byte ≡ WriteA o w) → phase_at f (at_phase p f n) 0 ≡ f' → t ≤ length ws → t' ≡ t
+  pub other_write : (o w : ℕ) → ((byte : ℕ) → wants_at f (at_phase p f n) byte ≡ Ok (WriteA o w)) → phase_at f (at_phase p f n) 0 ≡ f' → t ≤ length ws → t' ≡ t
       → Carried s ws log b (on (at_phase p f n) t g) (sets log g (o ∷ w ∷ [])) b (on (at_phase p f' n) t' g')
   other_write o w e h ht et =
       subst (λ (q : Parked). Carried s ws log b (on (at_phase p f n) t g) (sets log g (o ∷ w ∷ [])) b (on q t' g')) (after_other (at_phase p f n) 0 f' r h)
@@ -55,7 +56,7 @@ module _ (s ws log b : List ℕ) (p : Parked) (n : ℕ) (clear : starting (get_o
   pub open_write : p.kind ≡ Write → 2 ≤ length ws → 6 ≤ length log
       → Carried s ws log b (on (at_phase p (Open Start) n) 0 0)
       (sets log 0 (offset CR2 ∷ get_or ws 0 0 ∷ offset CR2 ∷ get_or ws 1 0 ∷ (offset CR2 + 0x100) ∷ started (get_or ws 1 0) (sadd8 p.address) p.send false true ∷ [])) b
-      (waiting p (moved n 2 6))
+      (on (at_phase p Wait n) 2 6)
   open_write k hw hl =
       let log₁ : List ℕ = sets log 0 (offset CR2 ∷ get_or ws 0 0 ∷ []) in
       let log₂ : List ℕ = sets log₁ 2 (offset CR2 ∷ get_or ws 1 0 ∷ []) in
@@ -68,7 +69,7 @@ module _ (s ws log b : List ℕ) (p : Parked) (n : ℕ) (clear : starting (get_o
   pub open_read : p.kind ≡ Read → 3 ≤ length ws → 8 ≤ length log
       → Carried s ws log b (on (at_phase p (Open Start) n) 0 0)
       (sets log 0 (offset CR2 ∷ get_or ws 0 0 ∷ offset RXDR ∷ get_or ws 1 0 ∷ offset CR2 ∷ get_or ws 2 0 ∷ (offset CR2 + 0x100) ∷ started (get_or ws 2 0) (sadd8 p.address) p.receive true true ∷ [])) b
-      (waiting p (moved n 3 8))
+      (on (at_phase p Wait n) 3 8)
   open_read k hw hl =
       let log₁ : List ℕ = sets log 0 (offset CR2 ∷ get_or ws 0 0 ∷ []) in
       let log₂ : List ℕ = sets log₁ 2 (offset RXDR ∷ get_or ws 1 0 ∷ []) in
@@ -83,7 +84,7 @@ module _ (s ws log b : List ℕ) (p : Parked) (n : ℕ) (clear : starting (get_o
   pub open_write_read : p.kind ≡ WriteRead → 1 ≤ length ws → 6 ≤ length log
       → Carried s ws log b (on (at_phase p (Open Start) n) 0 0)
       (sets log 0 (offset CR2 ∷ get_or ws 0 0 ∷ (offset ISR + 0x100) ∷ flushed ∷ (offset CR2 + 0x100) ∷ started 0 (sadd8 p.address) p.send false false ∷ [])) b
-      (waiting p (moved n 1 6))
+      (on (at_phase p Wait n) 1 6)
   open_write_read k hw hl =
       let log₁ : List ℕ = sets log 0 (offset CR2 ∷ get_or ws 0 0 ∷ []) in
       let log₂ : List ℕ = sets log₁ 2 ((offset ISR + 0x100) ∷ flushed ∷ []) in
@@ -93,19 +94,11 @@ module _ (s ws log b : List ℕ) (p : Parked) (n : ℕ) (clear : starting (get_o
       (other_write s ws log₂ b p n (Open (Setup 0)) Wait 1 4 6 1 (omega (arith, first.long, second.long)) refl refl (offset CR2 + 0x100)
       (started 0 (sadd8 p.address) p.send false false) (λ byte. rw k) (rw k) (omega arith) refl)
 
--- a call that parked at its byte, which comes in first
-pub resumes : (s ws log b : List ℕ) (p : Parked) (n : ℕ) → p.phase ≡ Transfer → p.count ≡ n → incoming p.kind ≡ true → n < p.receive → 0 < length ws → 2 ≤ length log
-    → Carried s ws log b (on p 0 0) (sets log 0 (offset RXDR ∷ get_or ws 0 0 ∷ [])) (set b n (received (get_or ws 0 0))) (waiting p (moved (n + 1) 1 2))
-resumes s ws log b p n f e i hn hw hl =
-    let stands : at_phase p Transfer n ≡ p = ap₂ (λ (x : Phase) (m : ℕ). at_phase p x m) (sym f) (sym e) in
-    subst (λ (q : Parked). Carried s ws log b (on q 0 0) (sets log 0 (offset RXDR ∷ get_or ws 0 0 ∷ [])) (set b n (received (get_or ws 0 0))) (waiting p (moved (n + 1) 1 2))) stands
-    (comes s ws log b p n 0 0 2 1 i hn hw hl refl refl)
-
 -- the second half of a `write_read`
-abbrev pub back : Parked → Parked
-back p = record { kind = ReadBack; address = p.address; send = p.send; receive = p.receive; phase = Wait; count = 0 }
+abbrev pub back : Parked → Phase → Parked
+back p f = record { kind = ReadBack; address = p.address; send = p.send; receive = p.receive; phase = f; count = 0 }
 
-after_restart : (p : Parked) (w : ℕ) → p.phase ≡ Restart → restarts p.kind ≡ true → after p w ≡ back p
+after_restart : (p : Parked) (w : ℕ) → p.phase ≡ Restart → restarts p.kind ≡ true → after p w ≡ back p Wait
 unfolding after turns moves
 after_restart p w e r = rw (e, r)
 
@@ -119,8 +112,8 @@ module _ (p : Parked) (i : incoming p.kind ≡ false) (r : restarts p.kind ≡ t
 
 module _ (s ws log b : List ℕ) (p : Parked) (n t g : ℕ) where
   pub restart : p.kind ≡ WriteRead → p.send ≤ n → t < length ws → g + 4 ≤ length log → get_or ws t 0 has TC ≡ true
-      → Carried s ws log b (waiting p (moved n t g)) (sets log g (offset ISR ∷ get_or ws t 0 ∷ (offset CR2 + 0x100) ∷ started 0 (sadd8 p.address) p.receive true true ∷ [])) b
-      (waiting (back p) (moved 0 (t + 1) (g + 4)))
+      → Carried s ws log b (on (at_phase p Wait n) t g) (sets log g (offset ISR ∷ get_or ws t 0 ∷ (offset CR2 + 0x100) ∷ started 0 (sadd8 p.address) p.receive true true ∷ [])) b
+      (on (back p Wait) (t + 1) (g + 4))
   restart k hn ht hg h =
       let log₁ : List ℕ = sets log g (offset ISR ∷ get_or ws t 0 ∷ []) in
       let none : more (at_phase p Wait n) ≡ false = sym (more_out (at_phase p Wait n) (rw k)) ∙ le-ltb n p.send hn in
@@ -133,7 +126,7 @@ module _ (s ws log b : List ℕ) (p : Parked) (n t g : ℕ) where
 
   -- STOPF alone, and nothing to flush
   pub stop : after_found (found_in (get_or ws t 0) (wanted (at_phase p Wait n))) (at_phase p Wait n) ≡ FlushTxis → get_or ws (t + 1) 0 has TXIS ≡ false → get_or ws (t + 2) 0 has TXE ≡ false → t + 3 ≤ length ws → g + 8 ≤ length log
-      → Carried s ws log b (waiting p (moved n t g))
+      → Carried s ws log b (on (at_phase p Wait n) t g)
       (sets log g (offset ISR ∷ get_or ws t 0 ∷ offset ISR ∷ get_or ws (t + 1) 0 ∷ offset ISR ∷ get_or ws (t + 2) 0 ∷ (offset ICR + 0x100) ∷ cleared STOPF ∷ [])) b
       (on (at_phase p (Ended Stopf) n) (t + 3) (g + 8))
   stop h h₁ h₂ ht hg =
@@ -150,8 +143,28 @@ module _ (s ws log b : List ℕ) (p : Parked) (n t g : ℕ) where
       (other_write s ws log₃ b p n ClearStopf (Ended Stopf) (t + 3) g₃ (g + 8) (t + 3) (omega (arith, first.long, second.long, third.long)) (omega arith) refl (offset ICR + 0x100) (cleared STOPF)
       (λ byte. refl) refl ht refl)
 
+-- the same of a call that is known to wait
+module _ (s ws log b : List ℕ) (p : Parked) (t g : ℕ) (wait : p.phase ≡ Wait) where
+  pub restart_on : p.kind ≡ WriteRead → p.send ≤ p.count → t < length ws → g + 4 ≤ length log → get_or ws t 0 has TC ≡ true
+      → Carried s ws log b (on p t g) (sets log g (offset ISR ∷ get_or ws t 0 ∷ (offset CR2 + 0x100) ∷ started 0 (sadd8 p.address) p.receive true true ∷ [])) b
+      (on (back p p.phase) (t + 1) (g + 4))
+  restart_on k hn ht hg h =
+      subst (λ (f : Phase). Carried s ws log b (on (at_phase p f p.count) t g) (sets log g (offset ISR ∷ get_or ws t 0 ∷ (offset CR2 + 0x100) ∷ started 0 (sadd8 p.address) p.receive true true ∷ [])) b
+      (on (back p f) (t + 1) (g + 4))) (sym wait) (restart s ws log b p p.count t g k hn ht hg h)
+
+  pub stop_on : after_found (found_in (get_or ws t 0) (wanted p)) p ≡ FlushTxis → get_or ws (t + 1) 0 has TXIS ≡ false → get_or ws (t + 2) 0 has TXE ≡ false → t + 3 ≤ length ws → g + 8 ≤ length log
+      → Carried s ws log b (on p t g)
+      (sets log g (offset ISR ∷ get_or ws t 0 ∷ offset ISR ∷ get_or ws (t + 1) 0 ∷ offset ISR ∷ get_or ws (t + 2) 0 ∷ (offset ICR + 0x100) ∷ cleared STOPF ∷ [])) b
+      (on (at_phase p (Ended Stopf) p.count) (t + 3) (g + 8))
+  stop_on h h₁ h₂ ht hg =
+      let e : at_phase p Wait p.count ≡ p = stays_at p Wait p.count wait in
+      subst (λ (q : Parked). Carried s ws log b (on q t g)
+      (sets log g (offset ISR ∷ get_or ws t 0 ∷ offset ISR ∷ get_or ws (t + 1) 0 ∷ offset ISR ∷ get_or ws (t + 2) 0 ∷ (offset ICR + 0x100) ∷ cleared STOPF ∷ [])) b
+      (on (at_phase p (Ended Stopf) p.count) (t + 3) (g + 8))) e
+      (stop s ws log b p p.count t g (subst (λ (q : Parked). after_found (found_in (get_or ws t 0) (wanted q)) q ≡ FlushTxis) (sym e) h) h₁ h₂ ht hg)
+
 -- the flag that is waited for outside the wait for TC
-pub stop_found : (p : Parked) (w : ℕ) (f : Wanted) → wanted p ≡ f → found_in w f ≡ MetStopf → after_found (found_in w (wanted p)) p ≡ FlushTxis
+pub stop_found : (p : Parked) (w : ℕ) (f : Wanted) → wanted p ≡ f → found_in w f ≡ Some MetStopf → after_found (found_in w (wanted p)) p ≡ FlushTxis
 stop_found p w f e h = rw (e, h)
 
 neither : (t : Bool) → cond t false false ≡ false

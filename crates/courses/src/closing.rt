@@ -1,39 +1,25 @@
 // Where a call that waits is, after its bytes: at the end of the words, at its stop, or before whatever else comes.
-ghost use Rattle.std.specs.Prelude.{◌≤◌, ◌≡◌, true, cond, length};
-ghost use Rattle.fields.specs.Layout.{RXNE, ◌has◌};
+ghost use Rattle.std.specs.Prelude.{ℕ, ◌≤◌, ◌≡◌, true, cond, List, length};
 ghost use Rattle.phases.specs.Kinds.{incoming};
-ghost use Rattle.courses.specs.Courses.{Asked, Stopped, Quiet, Closes, turn_of, phase_of, as_kind, closed_at};
+ghost use Rattle.courses.specs.Courses.{Asked, Stopped, Quiet, Follows};
 
+use crate::Followed;
 use crate::opening::hears;
-use crate::{Close, Place};
 use flags::{Icr, Isr};
 use parked::{End, Kind, Parked, Phase};
+use stretches::Progress;
 use stretches::polls::put_at;
-use stretches::{Moved, Progress, Turn};
 use wanted::{Found, Wanted};
 
 // RXNE in the last word: the byte is next.
-fn asked(hears: bool, taken: usize, logged: usize, words: &[u32], log: &mut [u32]) -> bool
-    requires { taken ≤ length words.now }
-    ensures { Asked result hears words.now taken logged log.old log.new }
+fn asked(p: Progress, words: &[u32], log: &mut [u32]) -> bool
+    requires { p.taken ≤ length words.now }
+    ensures { Asked result p words.now log.old log.new }
 {
-    if words.len() - taken != 1 {
+    let [isr] = &words[p.taken..] else {
         return false;
-    }
-    let isr = words[taken];
-    if rxne(hears, isr) {
-        return put_at(log, logged, &[Isr::READ, isr]);
-    }
-    false
-}
-
-fn rxne(hears: bool, isr: u32) -> bool
-    ensures { result ≡ true → (hears ≡ true) × (isr has RXNE ≡ true) }
-{
-    if hears {
-        return Isr::RXNE.is_set(isr);
-    }
-    false
+    };
+    hears(p.parked) && Isr::RXNE.is_set(*isr) && put_at(log, p.logged, &[Isr::READ, *isr])
 }
 
 // The flag that is waited for outside the wait for TC.
@@ -41,135 +27,89 @@ fn wanted(kind: Kind) -> Wanted
     ensures { result ≡ cond (incoming kind) Wanted.Rxne Wanted.Txis }
 {
     if kind.incoming() {
-        return Wanted::Rxne;
+        Wanted::Rxne
+    } else {
+        Wanted::Txis
     }
-    Wanted::Txis
 }
 
 // STOPF, and no flag that the wait looks at before it, with nothing to flush.
 fn quiet(kind: Kind, isr: u32, first: u32, second: u32) -> bool
     ensures { result ≡ true → Quiet kind isr first second }
 {
-    if kind.restarts() {
-        return false;
-    }
-    if Isr::TXIS.is_set(first) {
-        return false;
-    }
-    if Isr::TXE.is_set(second) {
-        return false;
-    }
-    let found = wanted(kind).found_in(isr);
-    if let Found::Stopf = found {
-        return true;
-    }
-    false
+    !kind.restarts()
+        && !Isr::TXIS.is_set(first)
+        && !Isr::TXE.is_set(second)
+        && matches!(wanted(kind).found_in(isr), Some(Found::Stopf))
 }
 
 // The four accesses of the stop.
-fn stopped(kind: Kind, taken: usize, logged: usize, words: &[u32], log: &mut [u32]) -> bool
-    requires { taken ≤ length words.now }
-    ensures { Stopped result kind words.now taken logged log.old log.new }
+fn stopped(p: Progress, words: &[u32], log: &mut [u32]) -> bool
+    requires { p.taken ≤ length words.now }
+    ensures { Stopped result p words.now log.old log.new }
 {
-    if words.len() - taken < 3 {
+    let [isr, first, second, ..] = &words[p.taken..] else {
+        return false;
+    };
+    if !quiet(p.parked.kind, *isr, *first, *second) {
         return false;
     }
-    let isr = words[taken];
-    let first = words[taken + 1];
-    let second = words[taken + 2];
-    if quiet(kind, isr, first, second) {
-        let clear = Icr::cleared(Isr::STOPF);
-        return put_at(
-            log,
-            logged,
-            &[
-                Isr::READ,
-                isr,
-                Isr::READ,
-                first,
-                Isr::READ,
-                second,
-                Icr::WRITE,
-                clear,
-            ],
-        );
-    }
-    false
+    let clear = Icr::cleared(Isr::STOPF);
+    put_at(
+        log,
+        p.logged,
+        &[
+            Isr::READ,
+            *isr,
+            Isr::READ,
+            *first,
+            Isr::READ,
+            *second,
+            Icr::WRITE,
+            clear,
+        ],
+    )
 }
 
 // The end of the words, the stop, or whatever else comes.
-pub(crate) fn closing(kind: Kind, receive: usize, m: Moved, words: &[u32], log: &mut [u32]) -> Place
-    requires { (m.taken ≤ length words.now) × (m.logged ≤ length log.old) }
-    ensures { (p : Parked) → p.kind ≡ kind → p.receive ≡ receive → Closes result.close words.now p m result.taken result.logged log.old log.new }
+pub(crate) fn closing(p: Progress, words: &[u32], log: &mut [u32]) -> Followed
+    requires { (p.taken ≤ length words.now) × (p.logged ≤ length log.old) × (p.parked.phase ≡ Phase.Wait) }
+    ensures { (s b : List ℕ) → Follows s words.now log.old b p log.new b result }
 {
-    let taken = m.taken;
-    let logged = m.logged;
-    if words.len() == taken {
-        return Place {
-            close: Close::NoWord,
-            taken,
-            logged,
+    if words.len() == p.taken {
+        return Followed {
+            progress: p,
+            end: Some(End::OutOfWords),
         };
     }
-    if asked(hears(kind, m.count, receive), taken, logged, words, log) {
-        return Place {
-            close: Close::Asks,
-            taken: taken + 1,
-            logged: logged + 2,
+    if asked(p, words, log) {
+        return Followed {
+            progress: Progress {
+                parked: Parked {
+                    phase: Phase::Transfer,
+                    ..p.parked
+                },
+                taken: p.taken + 1,
+                logged: p.logged + 2,
+            },
+            end: Some(End::OutOfWords),
         };
     }
-    if stopped(kind, taken, logged, words, log) {
-        return Place {
-            close: Close::Stops,
-            taken: taken + 3,
-            logged: logged + 8,
+    if stopped(p, words, log) {
+        return Followed {
+            progress: Progress {
+                parked: Parked {
+                    phase: Phase::Ended(End::Stopf),
+                    ..p.parked
+                },
+                taken: p.taken + 3,
+                logged: p.logged + 8,
+            },
+            end: Some(End::Stopf),
         };
     }
-    Place {
-        close: Close::Open,
-        taken,
-        logged,
-    }
-}
-
-fn turn_of(close: Close) -> Turn
-    ensures { result ≡ turn_of close }
-{
-    match close {
-        Close::NoWord => Turn::Over(End::OutOfWords),
-        Close::Asks => Turn::Over(End::OutOfWords),
-        Close::Stops => Turn::Over(End::Stopf),
-        Close::Open => Turn::Again,
-    }
-}
-
-fn phase_of(close: Close) -> Phase
-    ensures { result ≡ phase_of close }
-{
-    match close {
-        Close::NoWord => Phase::Wait,
-        Close::Asks => Phase::Transfer,
-        Close::Stops => Phase::Ended(End::Stopf),
-        Close::Open => Phase::Wait,
-    }
-}
-
-// The call where it is.
-pub(crate) fn closed(call: Parked, kind: Kind, count: usize, c: Place) -> Progress
-    ensures { result ≡ closed_at c.close (as_kind kind call) count c.taken c.logged }
-{
-    let close = c.close;
-    Progress {
-        turn: turn_of(close),
-        parked: Parked {
-            kind,
-            address: call.address,
-            send: call.send,
-            receive: call.receive,
-            phase: phase_of(close),
-            count,
-        },
-        taken: c.taken,
-        logged: c.logged,
+    Followed {
+        progress: p,
+        end: None,
     }
 }

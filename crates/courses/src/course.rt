@@ -1,149 +1,89 @@
 // The course of a call that is not wrong, as far as it follows plainly.
-ghost use Rattle.std.specs.Prelude.{ℕ, ◌≤◌, ◌≡◌, true, List, length};
-ghost use Rattle.fields.specs.Layout.{TC, ◌has◌};
-ghost use Rattle.stretches.specs.Stretches.{Carried, waiting};
-ghost use Rattle.courses.specs.Courses.{Restarted, Turns, Follows, fresh};
+ghost use Rattle.std.specs.Prelude.{ℕ, ◌≤◌, ◌≡◌, List, length};
+ghost use Rattle.courses.specs.Courses.{Sent, Heard, Restarted, Turns, Follows, fresh};
 
-use crate::Half;
-use crate::closing::{closed, closing};
+use crate::Followed;
+use crate::closing::closing;
 use crate::opening::opened;
 use cr2::Cr2;
 use flags::Isr;
-use parked::{Kind, Parked};
+use parked::{Kind, Parked, Phase};
+use stretches::Progress;
 use stretches::polls::put_at;
 use stretches::stretch::{receive_bytes, send_bytes};
-use stretches::{Moved, Progress, Turn};
 
 // Bytes go out, where the call sends.
-fn sent(kind: Kind, m: Moved, send: &[u8], words: &[u32], log: &mut [u32]) -> Moved
-    requires { (m.taken ≤ length words.now) × (m.logged ≤ length log.old) }
-    ensures { (p : Parked) (b : List ℕ) → p.kind ≡ kind → p.send ≡ length send.now → Carried send.now words.now log.old b (waiting p m) log.new b (waiting p result) }
+fn sent(p: Progress, send: &[u8], words: &[u32], log: &mut [u32]) -> Progress
+    requires { (p.taken ≤ length words.now) × (p.logged ≤ length log.old) × (p.parked.phase ≡ Phase.Wait) × (p.parked.send ≡ length send.now) }
+    ensures { Sent send.now words.now log.old p log.new result }
 {
-    if kind.incoming() {
-        return m;
+    if p.parked.kind.incoming() {
+        p
+    } else {
+        send_bytes(p, send, words, log)
     }
-    send_bytes(m, send, words, log)
 }
 
 // Bytes come in, where the call receives.
-fn heard(kind: Kind, m: Moved, receive: &mut [u8], words: &[u32], log: &mut [u32]) -> Moved
-    requires { (m.taken ≤ length words.now) × (m.logged ≤ length log.old) }
-    ensures { (s : List ℕ) (p : Parked) → p.kind ≡ kind → p.receive ≡ length receive.old → Carried s words.now log.old receive.old (waiting p m) log.new receive.new (waiting p result) }
+fn heard(p: Progress, receive: &mut [u8], words: &[u32], log: &mut [u32]) -> Progress
+    requires { (p.taken ≤ length words.now) × (p.logged ≤ length log.old) × (p.parked.phase ≡ Phase.Wait) × (p.parked.receive ≡ length receive.old) }
+    ensures { Heard words.now log.old receive.old p log.new receive.new result }
 {
-    if kind.incoming() {
-        return receive_bytes(m, receive, words, log);
+    if p.parked.kind.incoming() {
+        receive_bytes(p, receive, words, log)
+    } else {
+        p
     }
-    m
 }
 
-// Whether the flag that is waited for is TC.
-fn awaits_tc(kind: Kind, count: usize, send: usize) -> bool
-    ensures { result ≡ true → (kind ≡ Kind.WriteRead) × (send ≤ count) }
+// TC, where it is awaited: the second START.
+fn restarted(p: Progress, words: &[u32], log: &mut [u32]) -> bool
+    requires { p.taken ≤ length words.now }
+    ensures { Restarted result p words.now log.old log.new }
 {
-    if count < send {
+    let call = p.parked;
+    if call.kind != Kind::WriteRead || call.count < call.send {
         return false;
     }
-    if let Kind::WriteRead = kind {
-        return true;
-    }
-    false
-}
-
-// TC: the second START.
-fn restarted(
-    awaited: bool,
-    address: u8,
-    receive: usize,
-    taken: usize,
-    logged: usize,
-    words: &[u32],
-    log: &mut [u32],
-) -> bool
-    ensures { Restarted result awaited address receive words.now taken logged log.old log.new }
-{
-    if words.len() <= taken {
+    let [isr, ..] = &words[p.taken..] else {
+        return false;
+    };
+    if !Isr::TC.is_set(*isr) {
         return false;
     }
-    let isr = words[taken];
-    if tc(awaited, isr) {
-        let setup = Cr2::started(0, Cr2::sadd8(address), receive, true, true);
-        return put_at(log, logged, &[Isr::READ, isr, Cr2::WRITE, setup]);
-    }
-    false
-}
-
-fn tc(awaited: bool, isr: u32) -> bool
-    ensures { result ≡ true → (awaited ≡ true) × (isr has TC ≡ true) }
-{
-    if awaited {
-        return Isr::TC.is_set(isr);
-    }
-    false
+    let setup = Cr2::started(0, Cr2::sadd8(call.address), call.receive, true, true);
+    put_at(log, p.logged, &[Isr::READ, *isr, Cr2::WRITE, setup])
 }
 
 // TC begins the second half of a `write_read`.
-fn turned(call: Parked, m: Moved, words: &[u32], log: &mut [u32]) -> Half
-    requires { (m.taken ≤ length words.now) × (m.logged ≤ length log.old) }
-    ensures { Turns words.now log.old call m log.new result }
+fn turned(p: Progress, words: &[u32], log: &mut [u32]) -> Progress
+    requires { (p.taken ≤ length words.now) × (p.logged ≤ length log.old) × (p.parked.phase ≡ Phase.Wait) }
+    ensures { Turns words.now log.old p log.new result }
 {
-    let kind = call.kind;
-    let taken = m.taken;
-    let logged = m.logged;
-    let awaited = awaits_tc(kind, m.count, call.send);
-    if restarted(
-        awaited,
-        call.address,
-        call.receive,
-        taken,
-        logged,
-        words,
-        log,
-    ) {
-        return Half {
-            kind: Kind::ReadBack,
-            moved: Moved {
+    if restarted(p, words, log) {
+        Progress {
+            parked: Parked {
+                kind: Kind::ReadBack,
                 count: 0,
-                taken: taken + 1,
-                logged: logged + 4,
+                ..p.parked
             },
-        };
+            taken: p.taken + 1,
+            logged: p.logged + 4,
+        }
+    } else {
+        p
     }
-    Half { kind, moved: m }
 }
 
 // A call that waits: its bytes out, its second half, its bytes in, and its end.
-fn through(
-    call: Parked,
-    m: Moved,
-    send: &[u8],
-    receive: &mut [u8],
-    words: &[u32],
-    log: &mut [u32],
-) -> Progress
-    requires { (m.taken ≤ length words.now) × (m.logged ≤ length log.old) × (call.send ≡ length send.now) × (call.receive ≡ length receive.old) }
-    ensures { Follows send.now words.now log.old receive.old (waiting call m) log.new receive.new result }
+fn through(p: Progress, send: &[u8], receive: &mut [u8], words: &[u32], log: &mut [u32]) -> Followed
+    requires { (p.taken ≤ length words.now) × (p.logged ≤ length log.old) × (p.parked.phase ≡ Phase.Wait) × (p.parked.send ≡ length send.now) × (p.parked.receive ≡ length receive.old) }
+    ensures { Follows send.now words.now log.old receive.old p log.new receive.new result }
 {
-    let kind = call.kind;
-    let out = sent(kind, m, send, words, log);
-    let half = turned(call, out, words, log);
-    let begun = half.moved;
-    let then = half.kind;
-    let done = heard(then, begun, receive, words, log);
-    let place = closing(then, call.receive, done, words, log);
-    closed(call, then, done.count, place)
-}
-
-// Whether the slices have the lengths that the call was begun with.
-fn fits(sends: usize, send: usize, receives: usize, receive: usize) -> bool
-    ensures { result ≡ true → (sends ≡ send) × (receives ≡ receive) }
-{
-    if sends != send {
-        return false;
-    }
-    if receives != receive {
-        return false;
-    }
-    true
+    let out = sent(p, send, words, log);
+    let half = turned(out, words, log);
+    let done = heard(half, receive, words, log);
+    closing(done, words, log)
 }
 
 // As far as a call follows plainly; nothing is done where the slices have other lengths than the call.
@@ -153,27 +93,20 @@ pub fn follow(
     receive: &mut [u8],
     words: &[u32],
     log: &mut [u32],
-) -> Progress
+) -> Followed
     ensures { Follows send.now words.now log.old receive.old (fresh call) log.new receive.new result }
 {
-    if fits(call.send, send.len(), call.receive, receive.len()) {
-        let o = opened(call, receive, words, log);
-        if o.waits {
-            let moved = o.moved;
-            return through(call, moved, send, receive, words, log);
+    if call.send == send.len() && call.receive == receive.len() {
+        if let Some(p) = opened(call, receive, words, log) {
+            return through(p, send, receive, words, log);
         }
-        return from_start(call);
     }
-    from_start(call)
-}
-
-fn from_start(call: Parked) -> Progress
-    ensures { result ≡ fresh call }
-{
-    Progress {
-        turn: Turn::Again,
-        parked: call,
-        taken: 0,
-        logged: 0,
+    Followed {
+        progress: Progress {
+            parked: call,
+            taken: 0,
+            logged: 0,
+        },
+        end: None,
     }
 }

@@ -1,24 +1,22 @@
 // The accesses before the first wait of a master's call, made at once where START is clear and there are three words and room for all.
-ghost use Rattle.std.specs.Prelude.{ℕ, ◌+◌, ◌<◌, ◌≡◌, true, false, List, [], ◌∷◌, length};
+ghost use Rattle.std.specs.Prelude.{ℕ, ◌+◌, ◌≡◌, true, false, List, [], ◌∷◌, length};
 ghost use Rattle.fields.specs.Layout.{CR2, ISR, RXDR, offset};
 ghost use Rattle.fields.specs.Words.{started, flushed, sadd8};
-ghost use Rattle.phases.specs.Kinds.{incoming};
 ghost use Rattle.stretches.specs.Polls.{Put};
-ghost use Rattle.courses.specs.Courses.{Opens};
+ghost use Rattle.courses.specs.Courses.{Opens, Hears, waiting};
 
-use crate::Opened;
 use cr2::Cr2;
 use data_registers::Rxdr;
 use flags::Isr;
 use parked::{Kind, Opening, Parked, Phase};
-use stretches::Moved;
+use stretches::Progress;
 use stretches::polls::put_at;
 
 // START is clear, and a `modify` of CR2.
-fn open_write(address: u8, send: usize, first: u32, cr2: u32, log: &mut [u32]) -> bool
-    ensures { Put (offset CR2 ∷ first ∷ offset CR2 ∷ cr2 ∷ (offset CR2 + 0x100) ∷ started cr2 (sadd8 address) send false true ∷ []) log.old 0 result log.new }
+fn open_write(call: Parked, first: u32, cr2: u32, log: &mut [u32]) -> bool
+    ensures { Put (offset CR2 ∷ first ∷ offset CR2 ∷ cr2 ∷ (offset CR2 + 0x100) ∷ started cr2 (sadd8 call.address) call.send false true ∷ []) log.old 0 result log.new }
 {
-    let setup = Cr2::started(cr2, Cr2::sadd8(address), send, false, true);
+    let setup = Cr2::started(cr2, Cr2::sadd8(call.address), call.send, false, true);
     put_at(
         log,
         0,
@@ -27,17 +25,10 @@ fn open_write(address: u8, send: usize, first: u32, cr2: u32, log: &mut [u32]) -
 }
 
 // What RXDR holds is dropped before the `modify`.
-fn open_read(
-    address: u8,
-    receive: usize,
-    first: u32,
-    dropped: u32,
-    cr2: u32,
-    log: &mut [u32],
-) -> bool
-    ensures { Put (offset CR2 ∷ first ∷ offset RXDR ∷ dropped ∷ offset CR2 ∷ cr2 ∷ (offset CR2 + 0x100) ∷ started cr2 (sadd8 address) receive true true ∷ []) log.old 0 result log.new }
+fn open_read(call: Parked, first: u32, dropped: u32, cr2: u32, log: &mut [u32]) -> bool
+    ensures { Put (offset CR2 ∷ first ∷ offset RXDR ∷ dropped ∷ offset CR2 ∷ cr2 ∷ (offset CR2 + 0x100) ∷ started cr2 (sadd8 call.address) call.receive true true ∷ []) log.old 0 result log.new }
 {
-    let setup = Cr2::started(cr2, Cr2::sadd8(address), receive, true, true);
+    let setup = Cr2::started(cr2, Cr2::sadd8(call.address), call.receive, true, true);
     put_at(
         log,
         0,
@@ -55,10 +46,10 @@ fn open_read(
 }
 
 // TXDR is emptied, and CR2 written from 0.
-fn open_write_read(address: u8, send: usize, first: u32, log: &mut [u32]) -> bool
-    ensures { Put (offset CR2 ∷ first ∷ (offset ISR + 0x100) ∷ flushed ∷ (offset CR2 + 0x100) ∷ started 0 (sadd8 address) send false false ∷ []) log.old 0 result log.new }
+fn open_write_read(call: Parked, first: u32, log: &mut [u32]) -> bool
+    ensures { Put (offset CR2 ∷ first ∷ (offset ISR + 0x100) ∷ flushed ∷ (offset CR2 + 0x100) ∷ started 0 (sadd8 call.address) call.send false false ∷ []) log.old 0 result log.new }
 {
-    let setup = Cr2::started(0, Cr2::sadd8(address), send, false, false);
+    let setup = Cr2::started(0, Cr2::sadd8(call.address), call.send, false, false);
     put_at(
         log,
         0,
@@ -73,127 +64,79 @@ fn open_write_read(address: u8, send: usize, first: u32, log: &mut [u32]) -> boo
     )
 }
 
-fn not_yet() -> Opened
-    ensures { result.waits ≡ false }
+// A call that came to its wait.
+fn waits(call: Parked, taken: usize, logged: usize) -> Progress
+    ensures { result ≡ waiting call call.count taken logged }
 {
-    Opened {
-        waits: false,
-        moved: Moved {
-            count: 0,
-            taken: 0,
-            logged: 0,
+    Progress {
+        parked: Parked {
+            phase: Phase::Wait,
+            ..call
         },
+        taken,
+        logged,
     }
 }
 
 // A master's call that begins.
-fn started(call: Parked, words: &[u32], log: &mut [u32]) -> Opened
+fn started(call: Parked, words: &[u32], log: &mut [u32]) -> Option<Progress>
     requires { call.phase ≡ Phase.Open Opening.Start }
-    ensures { (s b : List ℕ) → Opens result.waits s words.now log.old b call result.moved log.new b }
+    ensures { (s b : List ℕ) → Opens result s words.now log.old b call log.new b }
 {
-    let kind = call.kind;
-    if words.len() < 3 {
-        return not_yet();
+    let [first, second, third, ..] = words else {
+        return None;
+    };
+    if Cr2::starting(*first) {
+        return None;
     }
-    let first = words[0];
-    if Cr2::starting(first) {
-        return not_yet();
+    match call.kind {
+        Kind::Write => open_write(call, *first, *second, log).then_some(waits(call, 2, 6)),
+        Kind::Read => open_read(call, *first, *second, *third, log).then_some(waits(call, 3, 8)),
+        Kind::WriteRead => open_write_read(call, *first, log).then_some(waits(call, 1, 6)),
+        _ => None,
     }
-    if let Kind::Write = kind {
-        let waits = open_write(call.address, call.send, first, words[1], log);
-        return Opened {
-            waits,
-            moved: Moved {
-                count: call.count,
-                taken: 2,
-                logged: 6,
-            },
-        };
-    }
-    if let Kind::Read = kind {
-        let waits = open_read(call.address, call.receive, first, words[1], words[2], log);
-        return Opened {
-            waits,
-            moved: Moved {
-                count: call.count,
-                taken: 3,
-                logged: 8,
-            },
-        };
-    }
-    if let Kind::WriteRead = kind {
-        let waits = open_write_read(call.address, call.send, first, log);
-        return Opened {
-            waits,
-            moved: Moved {
-                count: call.count,
-                taken: 1,
-                logged: 6,
-            },
-        };
-    }
-    not_yet()
 }
 
 // Whether a byte comes in next, and has its place.
-pub(crate) fn hears(kind: Kind, count: usize, receive: usize) -> bool
-    ensures { result ≡ true → (incoming kind ≡ true) × (count < receive) }
+pub(crate) fn hears(call: Parked) -> bool
+    ensures { Hears result call }
 {
-    if receive <= count {
-        return false;
-    }
-    kind.incoming()
+    call.kind.incoming() && call.count < call.receive
 }
 
 // A call that parked at its byte: it comes in first.
-fn resumed(kind: Kind, count: usize, receive: &mut [u8], words: &[u32], log: &mut [u32]) -> Opened
-    ensures { (s : List ℕ) (p : Parked) → p.kind ≡ kind → p.count ≡ count → p.phase ≡ Phase.Transfer → p.receive ≡ length receive.old → Opens result.waits s words.now log.old receive.old p result.moved log.new receive.new }
+fn resumed(call: Parked, receive: &mut [u8], words: &[u32], log: &mut [u32]) -> Option<Progress>
+    requires { (call.phase ≡ Phase.Transfer) × (call.receive ≡ length receive.old) }
+    ensures { (s : List ℕ) → Opens result s words.now log.old receive.old call log.new receive.new }
 {
-    if words.len() == 0 {
-        return not_yet();
+    let [rxdr, ..] = words else {
+        return None;
+    };
+    if hears(call) && put_at(log, 0, &[Rxdr::READ, *rxdr]) {
+        receive[call.count] = Rxdr::received(*rxdr);
+        let next = Parked {
+            count: call.count + 1,
+            ..call
+        };
+        return Some(waits(next, 1, 2));
     }
-    if hears(kind, count, receive.len()) {
-        let rxdr = words[0];
-        if put_at(log, 0, &[Rxdr::READ, rxdr]) {
-            receive[count] = Rxdr::received(rxdr);
-            return Opened {
-                waits: true,
-                moved: Moved {
-                    count: count + 1,
-                    taken: 1,
-                    logged: 2,
-                },
-            };
-        }
-        return not_yet();
-    }
-    not_yet()
+    None
 }
 
 // A call that comes to its wait at once.
-pub(crate) fn opened(call: Parked, receive: &mut [u8], words: &[u32], log: &mut [u32]) -> Opened
+pub(crate) fn opened(
+    call: Parked,
+    receive: &mut [u8],
+    words: &[u32],
+    log: &mut [u32],
+) -> Option<Progress>
     requires { call.receive ≡ length receive.old }
-    ensures { (s : List ℕ) → Opens result.waits s words.now log.old receive.old call result.moved log.new receive.new }
+    ensures { (s : List ℕ) → Opens result s words.now log.old receive.old call log.new receive.new }
 {
-    let phase = call.phase;
-    if let Phase::Wait = phase {
-        return Opened {
-            waits: true,
-            moved: Moved {
-                count: call.count,
-                taken: 0,
-                logged: 0,
-            },
-        };
+    match call.phase {
+        Phase::Wait => Some(waits(call, 0, 0)),
+        Phase::Transfer => resumed(call, receive, words, log),
+        Phase::Open(Opening::Start) => started(call, words, log),
+        _ => None,
     }
-    if let Phase::Transfer = phase {
-        let kind = call.kind;
-        return resumed(kind, call.count, receive, words, log);
-    }
-    if let Phase::Open(step) = phase {
-        if let Opening::Start = step {
-            return started(call, words, log);
-        }
-    }
-    not_yet()
 }

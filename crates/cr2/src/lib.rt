@@ -7,7 +7,7 @@ ghost use Rattle.fields.specs.Words.{started, sized, refused, stopped, starting,
 
 use fields::Field;
 
-#[derive(Clone, Copy)]
+#[derive(Clone, Copy, Debug, PartialEq, Eq)]
 pub struct Cr2;
 
 impl Cr2 {
@@ -91,6 +91,7 @@ impl Cr2 {
     }
 
     // The word of a start: a write without `autoend` is the first half of a `write_read`. NBYTES has a length's low 8 bits, as the Rust casts it.
+    #[tactic(auto, using(fields::proofs::FieldLaws::put_low), unfolding(fields::specs::Words::started))]
     pub fn started(cr2: u32, sadd: u32, nbytes: usize, read: bool, autoend: bool) -> u32
         ensures { result ≡ started cr2 sadd nbytes read autoend }
     {
@@ -103,6 +104,7 @@ impl Cr2 {
     }
 
     // The length of a slave's transfer: RELOAD stretches the clock after the last byte received.
+    #[tactic(auto, using(fields::proofs::FieldLaws::put_low), unfolding(fields::specs::Words::sized))]
     pub fn sized(cr2: u32, nbytes: usize, reload: bool) -> u32
         ensures { result ≡ sized cr2 nbytes reload }
     {
@@ -111,6 +113,7 @@ impl Cr2 {
     }
 
     // One more byte is taken and refused: the answer to TCR.
+    #[tactic(auto, unfolding(fields::specs::Words::refused))]
     pub fn refused(cr2: u32) -> u32
         ensures { result ≡ refused cr2 }
     {

@@ -6,7 +6,7 @@ ghost use Rattle.fields.specs.Words.{received, sent};
 
 use fields::Field;
 
-#[derive(Clone, Copy)]
+#[derive(Clone, Copy, Debug, PartialEq, Eq)]
 pub struct Rxdr;
 
 impl Rxdr {
@@ -23,7 +23,7 @@ impl Rxdr {
     }
 }
 
-#[derive(Clone, Copy)]
+#[derive(Clone, Copy, Debug, PartialEq, Eq)]
 pub struct Txdr;
 
 impl Txdr {

@@ -4,6 +4,5 @@
 mod fresh;
 mod link;
 mod never;
-mod out;
 mod seen;
 mod waiting;

@@ -8,7 +8,6 @@ ghost use Rattle.flat.specs.Configured.{config_of};
 ghost use Rattle.flat.specs.Out.{Out};
 
 use crate::fresh;
-use crate::out::{put_checked, put_errors, put_offered, put_started};
 use flat::out::put;
 use nonblocking::Link;
 
@@ -21,7 +20,7 @@ pub extern "C" fn i2c_check_isr_flags(
 )
     ensures { Out (λ r. Matches (outcome (record { call = check_isr_flags; words = words.now; places = size log.old }) (model link.old)) r (model link.new) log.old log.new) out.new }
 {
-    put_checked(nonblocking::lent::check_isr_flags(link, words, log), out);
+    put(nonblocking::lent::check_isr_flags(link, words, log), out);
 }
 
 #[unsafe(no_mangle)]
@@ -35,7 +34,7 @@ pub extern "C" fn i2c_master_write(
 )
     ensures { Out (λ r. Matches (outcome (record { call = master_write addr bytes.now; words = words.now; places = size log.old }) (model link.old)) r (model link.new) log.old log.new) out.new }
 {
-    put_started(
+    put(
         nonblocking::lent::master_write(link, addr, bytes, words, log),
         out,
     );
@@ -53,7 +52,7 @@ pub extern "C" fn i2c_master_write_read(
 )
     ensures { Out (λ r. Matches (outcome (record { call = master_write_read addr bytes.now read_len; words = words.now; places = size log.old }) (model link.old)) r (model link.new) log.old log.new) out.new }
 {
-    put_started(
+    put(
         nonblocking::lent::master_write_read(link, addr, bytes, read_len, words, log),
         out,
     );
@@ -70,7 +69,7 @@ pub extern "C" fn i2c_master_read(
 )
     ensures { Out (λ r. Matches (outcome (record { call = master_read addr read_len; words = words.now; places = size log.old }) (model link.old)) r (model link.new) log.old log.new) out.new }
 {
-    put_started(
+    put(
         nonblocking::lent::master_read(link, addr, read_len, words, log),
         out,
     );
@@ -86,7 +85,7 @@ pub extern "C" fn i2c_slave_write(
 )
     ensures { Out (λ r. Matches (outcome (record { call = slave_write bytes.now; words = words.now; places = size log.old }) (model link.old)) r (model link.new) log.old log.new) out.new }
 {
-    put_offered(nonblocking::lent::slave_write(link, bytes, words, log), out);
+    put(nonblocking::lent::slave_write(link, bytes, words, log), out);
 }
 
 #[unsafe(no_mangle)]
@@ -98,7 +97,7 @@ pub extern "C" fn i2c_execute_watchdog(
 )
     ensures { Out (λ r. Matches (outcome (record { call = execute_watchdog; words = words.now; places = size log.old }) (model link.old)) r (model link.new) log.old log.new) out.new }
 {
-    put_started(nonblocking::lent::execute_watchdog(link, words, log), out);
+    put(nonblocking::lent::execute_watchdog(link, words, log), out);
 }
 
 // No word is taken, and nothing is logged.
@@ -106,7 +105,7 @@ pub extern "C" fn i2c_execute_watchdog(
 pub extern "C" fn i2c_get_errors_reset(link: &mut Link, out: &mut [u64; 6])
     ensures { Out (λ r. (words log : List ℕ) → Matches (outcome (record { call = get_errors_reset; words = words; places = size log }) (model link.old)) r (model link.new) log log) out.new }
 {
-    put_errors(nonblocking::lent::get_errors_reset(link), out);
+    put(nonblocking::lent::get_errors_reset(link), out);
 }
 
 // The configuration is ten numbers. The link is fresh afterwards, whatever it held before; a refusal leaves it.

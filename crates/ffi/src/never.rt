@@ -9,7 +9,7 @@ ghost use Rattle.flat.specs.Out.{Out};
 ghost use Rattle.flags.specs.Flags.{event_of};
 
 use blocking::{construct, slave};
-use flags::event_of;
+use flags::Event;
 use flat::configured::config_of;
 use flat::out::put;
 use never_wait::interrupts;
@@ -18,8 +18,7 @@ use never_wait::interrupts;
 pub extern "C" fn i2c_blocking_slave_addressed(words: &[u32], log: &mut [u32], out: &mut [u64; 6])
     ensures { Out (λ r. Reported (slave_addressed words.now (length log.old)) log.old r log.new) out.new }
 {
-    let report = slave::slave_addressed(words, log);
-    put(report, out);
+    put(slave::slave_addressed(words, log), out);
 }
 
 #[unsafe(no_mangle)]
@@ -31,16 +30,14 @@ pub extern "C" fn i2c_blocking_slave_sbc(
 )
     ensures { Out (λ r. Reported (slave_sbc on words.now (length log.old)) log.old r log.new) out.new }
 {
-    let report = slave::slave_sbc(on, words, log);
-    put(report, out);
+    put(slave::slave_sbc(on, words, log), out);
 }
 
 #[unsafe(no_mangle)]
 pub extern "C" fn i2c_blocking_listen(event: u8, words: &[u32], log: &mut [u32], out: &mut [u64; 6])
     ensures { Out (λ r. Reported (interrupt (event_of event) true words.now (length log.old)) log.old r log.new) out.new }
 {
-    let report = interrupts::listen(event_of(event), words, log);
-    put(report, out);
+    put(interrupts::listen(Event::from(event), words, log), out);
 }
 
 #[unsafe(no_mangle)]
@@ -52,16 +49,14 @@ pub extern "C" fn i2c_blocking_unlisten(
 )
     ensures { Out (λ r. Reported (interrupt (event_of event) false words.now (length log.old)) log.old r log.new) out.new }
 {
-    let report = interrupts::unlisten(event_of(event), words, log);
-    put(report, out);
+    put(interrupts::unlisten(Event::from(event), words, log), out);
 }
 
 #[unsafe(no_mangle)]
 pub extern "C" fn i2c_blocking_clear_irq(event: u8, log: &mut [u32], out: &mut [u64; 6])
     ensures { Out (λ r. Reported (clear_irq (event_of event) (length log.old)) log.old r log.new) out.new }
 {
-    let report = interrupts::clear_irq(event_of(event), log);
-    put(report, out);
+    put(interrupts::clear_irq(Event::from(event), log), out);
 }
 
 // The configuration is ten numbers.
@@ -75,6 +70,5 @@ pub extern "C" fn i2c_blocking_construct(
 )
     ensures { Out (λ r. Reported (blocking_construction (config_of config.now) clock words.now (length log.old)) log.old r log.new) out.new }
 {
-    let report = construct::i2c1(config_of(config), clock, words, log);
-    put(report, out);
+    put(construct::i2c1(config_of(config), clock, words, log), out);
 }

@@ -12,45 +12,35 @@ use nonblocking::Link;
 pub extern "C" fn i2c_master_get_data(link: &Link, out: &mut [u64; 6])
     ensures { Out (λ r. (words log : List ℕ) → Matches (outcome (record { call = master_get_data; words = words; places = size log }) (model link.now)) r (model link.now) log log) out.new }
 {
-    let called = Link::master_get_data(*link);
-    let report = called.report;
-    put(report, out);
+    put(link.master_get_data().report, out);
 }
 
 #[unsafe(no_mangle)]
 pub extern "C" fn i2c_slave_get_data(link: &Link, out: &mut [u64; 6])
     ensures { Out (λ r. (words log : List ℕ) → Matches (outcome (record { call = slave_get_data; words = words; places = size log }) (model link.now)) r (model link.now) log log) out.new }
 {
-    let called = Link::slave_get_data(*link);
-    let report = called.report;
-    put(report, out);
+    put(link.slave_get_data().report, out);
 }
 
 #[unsafe(no_mangle)]
 pub extern "C" fn i2c_get_address(link: &Link, out: &mut [u64; 6])
     ensures { Out (λ r. (words log : List ℕ) → Matches (outcome (record { call = get_address; words = words; places = size log }) (model link.now)) r (model link.now) log log) out.new }
 {
-    let called = Link::get_address(*link);
-    let report = called.report;
-    put(report, out);
+    put(link.get_address().report, out);
 }
 
 #[unsafe(no_mangle)]
 pub extern "C" fn i2c_listen(link: &Link, words: &[u32], log: &mut [u32], out: &mut [u64; 6])
     ensures { Out (λ r. Matches (outcome (record { call = listen; words = words.now; places = size log.old }) (model link.now)) r (model link.now) log.old log.new) out.new }
 {
-    let called = Link::listen(*link, words, log);
-    let report = called.report;
-    put(report, out);
+    put(link.listen(words, log).report, out);
 }
 
 #[unsafe(no_mangle)]
 pub extern "C" fn i2c_unlisten(link: &Link, words: &[u32], log: &mut [u32], out: &mut [u64; 6])
     ensures { Out (λ r. Matches (outcome (record { call = unlisten; words = words.now; places = size log.old }) (model link.now)) r (model link.now) log.old log.new) out.new }
 {
-    let called = Link::unlisten(*link, words, log);
-    let report = called.report;
-    put(report, out);
+    put(link.unlisten(words, log).report, out);
 }
 
 #[unsafe(no_mangle)]
@@ -63,9 +53,7 @@ pub extern "C" fn i2c_slave_sbc(
 )
     ensures { Out (λ r. Matches (outcome (record { call = slave_sbc on; words = words.now; places = size log.old }) (model link.now)) r (model link.now) log.old log.new) out.new }
 {
-    let called = Link::slave_sbc(*link, on, words, log);
-    let report = called.report;
-    put(report, out);
+    put(link.slave_sbc(on, words, log).report, out);
 }
 
 #[unsafe(no_mangle)]
@@ -78,7 +66,5 @@ pub extern "C" fn i2c_set_address(
 )
     ensures { Out (λ r. Matches (outcome (record { call = set_address address; words = words.now; places = size log.old }) (model link.now)) r (model link.now) log.old log.new) out.new }
 {
-    let called = Link::set_address(*link, address, words, log);
-    let report = called.report;
-    put(report, out);
+    put(link.set_address(address, words, log).report, out);
 }

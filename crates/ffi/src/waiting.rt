@@ -21,8 +21,7 @@ pub extern "C" fn i2c_blocking_write(
 )
     ensures { Left (λ r. Whole (called Write address bytes.now (room log.old) [] words.now) log.old r log.new []) parked.new out.new }
 {
-    let ran = master::write(address, bytes, words, log);
-    leave(ran, parked, out);
+    leave(master::write(address, bytes, words, log), parked, out);
 }
 
 #[unsafe(no_mangle)]
@@ -36,8 +35,7 @@ pub extern "C" fn i2c_blocking_read(
 )
     ensures { Left (λ r. Whole (called Read address [] (room log.old) buffer.old words.now) log.old r log.new buffer.new) parked.new out.new }
 {
-    let ran = master::read(address, buffer, words, log);
-    leave(ran, parked, out);
+    leave(master::read(address, buffer, words, log), parked, out);
 }
 
 #[unsafe(no_mangle)]
@@ -52,8 +50,11 @@ pub extern "C" fn i2c_blocking_write_read(
 )
     ensures { Left (λ r. Whole (called WriteRead address bytes.now (room log.old) buffer.old words.now) log.old r log.new buffer.new) parked.new out.new }
 {
-    let ran = master::write_read(address, bytes, buffer, words, log);
-    leave(ran, parked, out);
+    leave(
+        master::write_read(address, bytes, buffer, words, log),
+        parked,
+        out,
+    );
 }
 
 #[unsafe(no_mangle)]
@@ -66,8 +67,7 @@ pub extern "C" fn i2c_blocking_slave_write(
 )
     ensures { Left (λ r. Whole (called SlaveWrite 0 bytes.now (room log.old) [] words.now) log.old r log.new []) parked.new out.new }
 {
-    let ran = slave::slave_write(bytes, words, log);
-    leave(ran, parked, out);
+    leave(slave::slave_write(bytes, words, log), parked, out);
 }
 
 #[unsafe(no_mangle)]
@@ -80,8 +80,7 @@ pub extern "C" fn i2c_blocking_slave_read(
 )
     ensures { Left (λ r. Whole (called SlaveRead 0 [] (room log.old) buffer.old words.now) log.old r log.new buffer.new) parked.new out.new }
 {
-    let ran = slave::slave_read(buffer, words, log);
-    leave(ran, parked, out);
+    leave(slave::slave_read(buffer, words, log), parked, out);
 }
 
 #[unsafe(no_mangle)]
@@ -93,8 +92,7 @@ pub extern "C" fn i2c_blocking_slave_wait_addressed(
 )
     ensures { Left (λ r. Whole (called SlaveWaitAddressed 0 [] (room log.old) [] words.now) log.old r log.new []) parked.new out.new }
 {
-    let ran = slave::slave_wait_addressed(words, log);
-    leave(ran, parked, out);
+    leave(slave::slave_wait_addressed(words, log), parked, out);
 }
 
 // Goes on with a parked call over the words that follow.
@@ -110,6 +108,5 @@ pub extern "C" fn i2c_blocking_resume(
     ensures { Left (λ r. Whole (outcome send.now (room log.old) (taken_up parked.old) receive.old words.now) log.old r log.new receive.new) parked.new out.new }
 {
     let call = take_up(parked);
-    let ran = run(call, send, receive, words, log);
-    leave(ran, parked, out);
+    leave(run(call, send, receive, words, log), parked, out);
 }

@@ -4,8 +4,9 @@
 ghost use Rattle.std.specs.Prelude.{◌≡◌, ◌-◌, ◌<◌, ◌^◌, min};
 ghost use Rattle.fields.specs.Field.{digit, get, put, is_set};
 
-// The `width` bits of a word from bit `place` on.
-#[derive(Clone, Copy)]
+// The `width` bits of a word from bit `place` on. A register's own numbers (OFFSET, READ, WRITE) are written at each register: the constant
+// that a trait provides has no value in the proof of a caller.
+#[derive(Clone, Copy, Debug, PartialEq, Eq)]
 pub struct Field {
     pub place: u32,
     pub width: u32,
@@ -13,17 +14,20 @@ pub struct Field {
 
 impl Field {
     // As many low bits set as the field has in the word.
+    #[tactic(auto, using(crate::proofs::ShiftAndMask::ones_above))]
     fn mask(self) -> u32
         requires { self.place < 32 }
         ensures { result ≡ 2 ^ min self.width (32 - self.place) - 1 }
     {
         if self.width < 32 - self.place {
-            return (1u32 << self.width) - 1;
+            (1u32 << self.width) - 1
+        } else {
+            0xFFFF_FFFF >> self.place
         }
-        0xFFFF_FFFF >> self.place
     }
 
     // The field's value. Bits past the word's end read as 0.
+    #[tactic(auto, using(crate::proofs::ShiftAndMask::get_code, crate::proofs::FieldLaws::get_lt))]
     pub fn get(self, word: u32) -> u32
         ensures { (result ≡ get word self) × (result < 2 ^ self.width) }
     {
@@ -34,6 +38,7 @@ impl Field {
     }
 
     // The word with the value's low bits in the field. Bits past the word's end are lost.
+    #[tactic(auto, using(crate::proofs::ShiftAndMask::put_code))]
     pub fn put(self, word: u32, value: u32) -> u32
         ensures { result ≡ put word self value }
     {
@@ -45,6 +50,7 @@ impl Field {
     }
 
     // The word with the field's bits clear.
+    #[tactic(auto, using(crate::proofs::ShiftAndMask::clear_code))]
     pub fn clear(self, word: u32) -> u32
         ensures { result ≡ put word self 0 }
     {
@@ -59,12 +65,14 @@ impl Field {
         ensures { result ≡ put word self (digit on) }
     {
         if on {
-            return self.put(word, 1);
+            self.put(word, 1)
+        } else {
+            self.clear(word)
         }
-        self.clear(word)
     }
 
     // Whether a field of one bit is set.
+    #[tactic(auto, unfolding(crate::specs::Field::is_set))]
     pub fn is_set(self, word: u32) -> bool
         ensures { result ≡ is_set word self }
     {

@@ -13,13 +13,7 @@ use phases::{Kind, Phase};
 pub fn compared(kind: Kind, more: bool, span: usize) -> usize
     ensures { result ≡ compared kind more span }
 {
-    if more {
-        return span;
-    }
-    if kind.restarts() {
-        return 254;
-    }
-    span
+    if kind.restarts() && !more { 254 } else { span }
 }
 
 // `flush_txdr`, at STOPF: the phase after its second read of ISR. TXE is written where it is set.
@@ -27,7 +21,8 @@ pub fn pending_txe(isr: u32) -> Phase
     ensures { result ≡ cond (isr has TXE) Phase.FlushEmpty Phase.ClearStopf }
 {
     if Isr::TXE.is_set(isr) {
-        return Phase::FlushEmpty;
+        Phase::FlushEmpty
+    } else {
+        Phase::ClearStopf
     }
-    Phase::ClearStopf
 }

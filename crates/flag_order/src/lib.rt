@@ -8,7 +8,7 @@ ghost use Rattle.flag_order.specs.FlagOrder.{taken_as};
 use flags::Isr;
 
 // The flag that an ISR word is taken as.
-#[derive(Clone, Copy)]
+#[derive(Clone, Copy, Debug, PartialEq, Eq)]
 pub enum Flag {
     Berr,
     Arlo,
@@ -66,6 +66,7 @@ fn first_late(isr: u32) -> Flag
 }
 
 // The first set flag, in the order of `check_isr_flags`.
+#[tactic(auto, using(crate::proofs::Groups::grouped))]
 pub fn taken_as(isr: u32) -> Flag
     ensures { result ≡ taken_as isr }
 {

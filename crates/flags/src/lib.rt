@@ -4,29 +4,33 @@
 ghost use Rattle.std.specs.Prelude.{◌≡◌};
 ghost use Rattle.fields.specs.Field.{put};
 ghost use Rattle.fields.specs.Words.{flushed};
+ghost use Rattle.answers.specs.Answers.{direction_number};
 ghost use Rattle.flags.specs.Flags.{direction_of, address_code, event_of};
 
-use answers::{I2cDirection, MASTER_READ_SLAVE_WRITE, MASTER_WRITE_SLAVE_READ};
+use answers::I2cDirection;
 use fields::Field;
 
 // What the blocking `listen` can ask for: ADDR or RXNE.
-#[derive(Clone, Copy)]
+#[derive(Clone, Copy, Debug, PartialEq, Eq)]
 pub enum Event {
     AddressMatch,
     Rxne,
 }
 
 // An event by its number. Every number is taken.
-pub fn event_of(number: u8) -> Event
-    ensures { result ≡ event_of number }
-{
-    if 0 < number {
-        return Event::Rxne;
+impl From<u8> for Event {
+    ghost from_gives = { λ number event. event ≡ event_of number };
+
+    fn from(number: u8) -> Event {
+        if 0 < number {
+            Event::Rxne
+        } else {
+            Event::AddressMatch
+        }
     }
-    Event::AddressMatch
 }
 
-#[derive(Clone, Copy)]
+#[derive(Clone, Copy, Debug, PartialEq, Eq)]
 pub struct Isr;
 
 impl Isr {
@@ -67,13 +71,15 @@ impl Isr {
     };
 
     // Who sends: the slave when DIR is set.
+    #[tactic(auto, unfolding(crate::specs::Flags::direction_of))]
     pub fn direction(isr: u32) -> I2cDirection
-        ensures { result ≡ direction_of isr }
+        ensures { direction_number result ≡ direction_of isr }
     {
         if Isr::DIR.is_set(isr) {
-            return MASTER_READ_SLAVE_WRITE;
+            I2cDirection::MasterReadSlaveWrite
+        } else {
+            I2cDirection::MasterWriteSlaveRead
         }
-        MASTER_WRITE_SLAVE_READ
     }
 
     // The address by which this slave was addressed.
@@ -91,7 +97,7 @@ impl Isr {
     }
 }
 
-#[derive(Clone, Copy)]
+#[derive(Clone, Copy, Debug, PartialEq, Eq)]
 pub struct Icr;
 
 impl Icr {

@@ -1,2 +1,1 @@
-pub mod NoValues
 pub mod Promises

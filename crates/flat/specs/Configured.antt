@@ -1,24 +1,14 @@
 -- A configuration as ten numbers. Every number is taken.
-use Rattle.std.specs.Prelude.{ℕ, ◌%◌, cond, List, [], ◌∷◌, ltb, get_or}
+use Rattle.std.specs.Prelude.{ℕ, ◌%◌, cond, Option, None, Some, List, ltb, get_or}
 use Rattle.config.specs.declared.Config.{Config}
-use Rattle.config.specs.declared.Setting.{Setting}
-use Rattle.config.specs.declared.Setting.TheVariants.{Unset, Set}
-use Rattle.config.specs.declared.SlaveAddressMask.{SlaveAddressMask}
-use Rattle.config.specs.declared.SlaveAddressMask.TheVariants.{MaskNone, MaskOneBit, MaskTwoBits, MaskThreeBits, MaskFourBits, MaskFiveBits, MaskSixBits, MaskAllBits}
+use Rattle.config.specs.Config.{mask_of}
 
 -- a number that is not 0 says that the value is set
-abbrev pub setting_of : ℕ → ℕ → Setting
-setting_of on value = cond (ltb 0 on) (Set value) Unset
-
-abbrev pub masks : List SlaveAddressMask
-masks = MaskNone ∷ MaskOneBit ∷ MaskTwoBits ∷ MaskThreeBits ∷ MaskFourBits ∷ MaskFiveBits ∷ MaskSixBits ∷ []
-
--- 7 and above: all bits
-abbrev pub mask_of : ℕ → SlaveAddressMask
-mask_of n = get_or masks n MaskAllBits
+abbrev pub setting_of : ℕ → ℕ → Option ℕ
+setting_of on value = cond (ltb 0 on) (Some value) None
 
 -- the two settings, and from the fifth number on the two filters, the own address and whether it is long, the second address and its mask
-abbrev pub configured : Setting → Setting → List ℕ → Config
+abbrev pub configured : Option ℕ → Option ℕ → List ℕ → Config
 configured speed timing xs = record {
   speed = speed;
   timing = timing;

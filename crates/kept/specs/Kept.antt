@@ -1,7 +1,5 @@
 -- A parked call as seven numbers, which a caller keeps until it resumes the call.
 use Rattle.std.specs.Prelude.{ℕ, ◌%◌, ◌<◌, ◌≡◌, List, [], ◌∷◌, get_or}
-use Rattle.phases.specs.declared.Kind.{Kind}
-use Rattle.phases.specs.declared.Kind.TheVariants.{Write, Read, WriteRead, ReadBack, SlaveWrite, SlaveRead, SlaveWaitAddressed}
 use Rattle.phases.specs.declared.Opening.{Opening}
 use Rattle.phases.specs.declared.Opening.TheVariants.{Start, Drain, Modify, Setup, Flush, Release, Probe, Drop}
 use Rattle.phases.specs.declared.End.{End}
@@ -9,15 +7,7 @@ use Rattle.phases.specs.declared.End.TheVariants.{OutOfWords, LogFull, BadLength
 use Rattle.phases.specs.declared.Phase.{Phase}
 use Rattle.phases.specs.declared.Phase.TheVariants.{Open, Wait, Transfer, Restart, Stretched, Refuse, ClearBerr, ClearArlo, ClearNackf, ClearStopf, FlushTxis, FlushDummy, FlushTxe, FlushEmpty, Listen, Code, Ended}
 use Rattle.parked.specs.declared.Parked.{Parked}
-
-abbrev pub kind_number : Kind → ℕ
-kind_number Write = 0
-kind_number Read = 1
-kind_number WriteRead = 2
-kind_number ReadBack = 3
-kind_number SlaveWrite = 4
-kind_number SlaveRead = 5
-kind_number SlaveWaitAddressed = 6
+pub use Rattle.phases.specs.Numbers.{kind_number, kinds, kind_of}
 
 abbrev pub opening_number : Opening → ℕ
 opening_number Start = 0
@@ -98,13 +88,7 @@ phase_word Listen = 0
 phase_word Code = 0
 phase_word (Ended end) = end_word end
 
--- the kind and the phase of a number; a number above the last is taken as the last
-abbrev pub kinds : List Kind
-kinds = Write ∷ Read ∷ WriteRead ∷ ReadBack ∷ SlaveWrite ∷ SlaveRead ∷ []
-
-abbrev pub kind_of : ℕ → Kind
-kind_of n = get_or kinds n SlaveWaitAddressed
-
+-- the phase of a number; a number above the last is taken as the last
 abbrev pub phases : ℕ → List Phase
 phases word =
     Open Start ∷ Open Drain ∷ Open Modify ∷ Open (Setup word) ∷ Open Flush ∷ Open Release ∷ Open Probe ∷ Open Drop

@@ -1,22 +1,8 @@
-// The kind and the phase of a parked call by their numbers. Every number is taken.
+// The phase of a parked call by its number, and the word that it remembers. Every number is taken.
 ghost use Rattle.std.specs.Prelude.{◌≡◌};
-ghost use Rattle.kept.specs.Kept.{kind_of, phase_of};
+ghost use Rattle.kept.specs.Kept.{phase_of};
 
-use parked::{End, Kind, Opening, Phase};
-
-pub fn kind_of(number: u64) -> Kind
-    ensures { result ≡ kind_of number }
-{
-    match number {
-        0 => Kind::Write,
-        1 => Kind::Read,
-        2 => Kind::WriteRead,
-        3 => Kind::ReadBack,
-        4 => Kind::SlaveWrite,
-        5 => Kind::SlaveRead,
-        _ => Kind::SlaveWaitAddressed,
-    }
-}
+use parked::{End, Opening, Phase};
 
 pub fn phase_of(number: u64, word: u32) -> Phase
     ensures { result ≡ phase_of number word }

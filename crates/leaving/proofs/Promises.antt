@@ -13,7 +13,7 @@ use Rattle.leaving.specs.Left.{Left}
 left_promised : (holds : Ran → Type 0) (kept out : List ℕ) → Left holds kept out →
     (r : Ran) × holds r
     × (kept ≡ laid r.parked)
-    × (out ≡ (said r.answer).number ∷ r.taken ∷ r.logged ∷ get_or (said r.answer).values 0 0 ∷ get_or (said r.answer).values 1 0 ∷ get_or (said r.answer).values 2 0 ∷ [])
+    × (out ≡ (said r.report.answer).number ∷ r.report.taken ∷ r.report.logged ∷ get_or (said r.report.answer).values 0 0 ∷ get_or (said r.report.answer).values 1 0 ∷ get_or (said r.report.answer).values 2 0 ∷ [])
 left_promised holds kept out l = (l.ran, l.held, l.call, l.numbers)
 
 -- a call that is laid down as seven numbers and taken up again is the same call

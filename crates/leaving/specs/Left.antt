@@ -10,4 +10,4 @@ pub record Left (holds : Ran → Type 0) (kept out : List ℕ) : Type 0 where
   pub ran : Ran
   pub held : holds ran
   pub call : kept ≡ laid ran.parked
-  pub numbers : out ≡ six (said ran.answer) ran.taken ran.logged
+  pub numbers : out ≡ six (said ran.report.answer) ran.report.taken ran.report.logged

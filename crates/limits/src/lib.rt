@@ -15,24 +15,12 @@ pub fn filter_allowed(cycles: u8) -> bool
 pub fn length_allowed(length: usize) -> bool
     ensures { result ≡ length_allowed length }
 {
-    if length == 0 {
-        return false;
-    }
-    length <= 255
+    (1..=255).contains(&length)
 }
 
 // Whether no run of calls leaves such a link: answer 12.
 pub fn impossible(index: usize, length: usize, length_write_read: usize, watchdog: u16) -> bool
     ensures { result ≡ impossible_at index length length_write_read watchdog }
 {
-    if length < index {
-        return true;
-    }
-    if 255 < length {
-        return true;
-    }
-    if 255 < length_write_read {
-        return true;
-    }
-    10 < watchdog
+    length < index || 255 < length || 255 < length_write_read || 10 < watchdog
 }

@@ -48,19 +48,14 @@ pub fn unlisten(event: Event, words: &[u32], log: &mut [u32]) -> Report
 pub fn clear_irq(event: Event, log: &mut [u32]) -> Report
     ensures { Reported (clear_irq event (length log.old)) log.old result log.new }
 {
-    let none = [0u32; 0];
     match event {
         Event::AddressMatch => settle(
             Answer::Done,
             0,
             &[Icr::WRITE, Icr::cleared(Isr::ADDR)],
-            &none,
+            &[],
             log,
         ),
-        Event::Rxne => Report {
-            answer: Answer::Done,
-            taken: 0,
-            logged: 0,
-        },
+        Event::Rxne => Report::without_access(Answer::Done),
     }
 }

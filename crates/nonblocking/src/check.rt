@@ -1,46 +1,43 @@
 // `check_isr_flags`: the flag that the ISR word is taken as chooses the step.
 ghost use Rattle.std.specs.Prelude.{length as size};
 ghost use Rattle.ending.specs.Call.{check_isr_flags};
-ghost use Rattle.nonblocking.specs.Model.{model};
 ghost use Rattle.ending.specs.Outcome.{outcome, Matches};
+ghost use Rattle.nonblocking.specs.Model.{model};
+ghost use Rattle.nonblocking.specs.Made.{Made};
 
+use crate::steps::frame::on_tcr;
+use crate::steps::{on_arlo, on_nackf, on_nothing};
 use crate::{Called, Link};
-use checks::check_fields;
+use access::Report;
+use answers::Refusal;
+use flag_order::{Flag, taken_as};
+use settling::word_at;
 
 impl Link {
     // Looks at the flags once, and does what the first set one asks for. Call it from the I2C interrupt, or again while it answers pending.
-    pub fn check_isr_flags(self, words: &[u32], log: &mut [u32]) -> Called
+    pub fn check_isr_flags(mut self, words: &[u32], log: &mut [u32]) -> Called
         ensures { Matches (outcome (record { call = check_isr_flags; words = words.now; places = size log.old }) (model self)) result.report (model result.link) log.old log.new }
     {
-        let mut address = self.address;
-        let mut watchdog = self.watchdog;
-        let mut index = self.index;
-        let mut length = self.length;
-        let mut errors = self.errors;
-        let mut length_write_read = self.length_write_read;
-        let mut data = self.data;
-        let report = check_fields(
-            &mut address,
-            &mut watchdog,
-            &mut index,
-            &mut length,
-            &mut errors,
-            &mut length_write_read,
-            &mut data,
-            words,
-            log,
-        );
-        Called {
-            link: Link {
-                address,
-                watchdog,
-                index,
-                length,
-                errors,
-                length_write_read,
-                data,
-            },
-            report,
+        let tried = self.check(words, log);
+        Called::of(self, tried)
+    }
+
+    #[tactic(auto, unfolding(ending::specs::Outcome::outcome))]
+    pub(crate) fn check(&mut self, words: &[u32], log: &mut [u32]) -> Result<Report, Refusal>
+        ensures { Made check_isr_flags words.now self.old self.new result log.old log.new }
+    {
+        self.possible()?;
+        match taken_as(word_at(words, 0)) {
+            Flag::Berr => self.on_berr(words, log),
+            Flag::Arlo => on_arlo(words, log),
+            Flag::Nackf => on_nackf(words, log),
+            Flag::Txis => self.on_txis(words, log),
+            Flag::Rxne => self.on_rxne(words, log),
+            Flag::Stopf => self.on_stopf(words, log),
+            Flag::Tc => self.on_tc(words, log),
+            Flag::Tcr => on_tcr(words, log),
+            Flag::Addr => self.on_addr(words, log),
+            Flag::Nothing => on_nothing(words, log),
         }
     }
 }

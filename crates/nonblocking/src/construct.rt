@@ -1,14 +1,15 @@
 // Construction.
-ghost use Rattle.std.specs.Prelude.{◌≡◌, length as size};
+ghost use Rattle.std.specs.Prelude.{◌≡◌, ◌<◌, IfOk, length};
+ghost use Rattle.construction.specs.Drivers.{own_ten_or_seven, non_blocking_construction};
 ghost use Rattle.access.specs.Access.{Reported};
-ghost use Rattle.construction.specs.SetUp.{set_up};
-ghost use Rattle.ending.specs.Link.{fresh};
-ghost use Rattle.construction.specs.Drivers.{own_ten_or_seven};
+ghost use Rattle.access.specs.Reports.{report_of};
 ghost use Rattle.nonblocking.specs.Construct.{Constructed};
 
 use crate::{Called, Link};
+use access::Report;
+use answers::Refusal;
 use config::Config;
-use construction::set_up;
+use construction::try_set_up;
 use registers::oar::Oar1;
 
 impl Link {
@@ -16,12 +17,22 @@ impl Link {
     pub fn i2c1(config: Config, clock: u32, words: &[u32], log: &mut [u32]) -> Called
         ensures { Constructed config clock words.now log.old result.report result.link log.new }
     {
-        let oar1 = own_address(config.slave_address_1, config.address_11bits);
-        Called {
-            link: Link::new(),
-            report: set_up(config, clock, oar1, words, log),
-        }
+        Called::of(Link::new(), try_i2c1(config, clock, words, log))
     }
+}
+
+// The set-up alone, which comes with a fresh link where it is not refused.
+pub fn try_i2c1(
+    config: Config,
+    clock: u32,
+    words: &[u32],
+    log: &mut [u32],
+) -> Result<Report, Refusal>
+    ensures report { Reported (non_blocking_construction config clock words.now (length log.old)) log.old (report_of result) log.new }
+    ensures logged { IfOk result (λ report. 0 < report.logged) }
+{
+    let oar1 = own_address(config.slave_address_1, config.address_11bits);
+    try_set_up(config, clock, oar1, words, log)
 }
 
 // OAR1 as this driver writes it: all ten bits of a long address.
@@ -29,7 +40,8 @@ fn own_address(address: u16, address_11bits: bool) -> u32
     ensures { result ≡ own_ten_or_seven address_11bits address }
 {
     if address_11bits {
-        return Oar1::own_ten(address);
+        Oar1::own_ten(address)
+    } else {
+        Oar1::own_seven(address, false, true)
     }
-    Oar1::own_seven(address, false, true)
 }

@@ -1,13 +1,17 @@
 // The non-blocking driver: the link, and the two statements that this crate promises. The calls are in the modules.
 #![tactic(auto)]
 
-ghost use Rattle.std.specs.Prelude.{◌≡◌};
+ghost use Rattle.std.specs.Prelude.{◌≡◌, ◌≤◌, true, false, IfErr, OnErr, OnOk};
 ghost use Rattle.bench_table.specs.BenchTable.{BenchTable};
+ghost use Rattle.limits.specs.Limits.{one_more};
+ghost use Rattle.access.specs.Reports.{report_of};
 ghost use Rattle.ending.specs.EqualEnding.{EqualEnding};
-ghost use Rattle.ending.specs.Link.{fresh};
+ghost use Rattle.ending.specs.Link.{fresh, impossible};
 ghost use Rattle.nonblocking.specs.Model.{model};
 
 use access::Report;
+use answers::Refusal;
+use limits::impossible;
 
 pub mod check;
 pub mod construct;
@@ -15,11 +19,14 @@ pub mod control;
 pub mod getters;
 pub mod lent;
 pub mod master;
+mod opening;
 pub mod slave;
+mod steps;
+mod watchdog;
 
 // What a link holds between calls.
 #[repr(C)]
-#[derive(Clone, Copy)]
+#[derive(Clone, Copy, Debug, PartialEq, Eq)]
 pub struct Link {
     pub address: u16,
     // On each start set to 10, on each stop set to 0.
@@ -35,10 +42,22 @@ pub struct Link {
 
 // What a call gives back: the link, and its answer with the words taken and the places logged.
 // The bytes that an answer shows are the first ones of the link's data, as many as its count.
-#[derive(Clone, Copy)]
+#[derive(Clone, Copy, Debug, PartialEq, Eq)]
 pub struct Called {
     pub link: Link,
     pub report: Report,
+}
+
+impl Called {
+    // The link after a call, and the call's report or refusal.
+    fn of(link: Link, tried: Result<Report, Refusal>) -> Called
+        ensures { (result.link ≡ link) × (result.report ≡ report_of tried) }
+    {
+        Called {
+            link,
+            report: tried.unwrap_or_else(Report::from),
+        }
+    }
 }
 
 impl Link {
@@ -55,6 +74,43 @@ impl Link {
             length_write_read: 0,
             data: [0u8; 255],
         }
+    }
+
+    // Answer 12, where no run of calls leaves such a link.
+    #[tactic(auto, unfolding(ending::specs::Link::impossible))]
+    fn possible(&self) -> Result<(), Refusal>
+        ensures ok { OnOk result (impossible (model self.now) ≡ false) }
+        ensures length { OnOk result (self.now.length ≤ 255) }
+        ensures err { OnErr result (impossible (model self.now) ≡ true) }
+        ensures refusal { IfErr result (λ refusal. refusal ≡ Refusal.ImpossibleLink) }
+    {
+        if impossible(
+            self.index,
+            self.length,
+            self.length_write_read,
+            self.watchdog,
+        ) {
+            return Err(Refusal::ImpossibleLink);
+        }
+        Ok(())
+    }
+
+    // A transfer of so many bytes with this address begins.
+    fn begin(&mut self, address: u16, length: usize)
+        ensures { self.new ≡ record self.old { address = address; watchdog = 10; index = 0; length = length } }
+    {
+        self.address = address;
+        self.watchdog = 10;
+        self.index = 0;
+        self.length = length;
+    }
+
+    // One more error; the count stops at its top.
+    #[tactic(auto, unfolding(limits::specs::Limits::one_more))]
+    fn count_error(&mut self)
+        ensures { self.new ≡ record self.old { errors = one_more self.old.errors } }
+    {
+        self.errors = self.errors.saturating_add(1);
     }
 }
 

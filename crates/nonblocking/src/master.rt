@@ -1,25 +1,33 @@
 // The master's starts: `master_write`, `master_write_read`, `master_read`.
 ghost use Rattle.std.specs.Prelude.{length as size, get_or};
+ghost use Rattle.access.specs.Reports.{report_of};
 ghost use Rattle.ending.specs.Link.{impossible};
 ghost use Rattle.ending.specs.Call.{master_write, master_write_read, master_read};
 ghost use Rattle.ending.specs.Plan.{write_start};
-ghost use Rattle.nonblocking.specs.Model.{model};
 ghost use Rattle.ending.specs.Outcome.{outcome, settled, Matches};
+ghost use Rattle.nonblocking.specs.Model.{model};
+ghost use Rattle.nonblocking.specs.Made.{Made};
 
+use crate::opening::{looked, read_opened, write_opened};
 use crate::{Called, Link};
-use starts::master::{read_fields, write_fields};
+use access::Report;
+use answers::{Answer, Refusal};
+use cr2::Cr2;
+use limits::length_allowed;
+use settling::word_at;
 
 impl Link {
     // Sends the bytes. They are copied to the link's buffer.
-    pub fn master_write(self, addr: u16, bytes: &[u8], words: &[u32], log: &mut [u32]) -> Called
+    pub fn master_write(mut self, addr: u16, bytes: &[u8], words: &[u32], log: &mut [u32]) -> Called
         ensures { Matches (outcome (record { call = master_write addr bytes.now; words = words.now; places = size log.old }) (model self)) result.report (model result.link) log.old log.new }
     {
-        self.write(addr, bytes, 0, true, words, log)
+        let tried = self.write(addr, bytes, words, log);
+        Called::of(self, tried)
     }
 
     // Sends the bytes; when they are sent, the check starts a read of `read_len` bytes.
     pub fn master_write_read(
-        self,
+        mut self,
         addr: u16,
         bytes: &[u8],
         read_len: u8,
@@ -28,89 +36,93 @@ impl Link {
     ) -> Called
         ensures { Matches (outcome (record { call = master_write_read addr bytes.now read_len; words = words.now; places = size log.old }) (model self)) result.report (model result.link) log.old log.new }
     {
-        self.write(addr, bytes, read_len as usize, false, words, log)
+        let tried = self.write_read(addr, bytes, read_len, words, log);
+        Called::of(self, tried)
     }
 
-    fn write(
-        self,
+    // Receives bytes into the link's buffer.
+    pub fn master_read(mut self, addr: u16, read_len: u8, words: &[u32], log: &mut [u32]) -> Called
+        ensures { Matches (outcome (record { call = master_read addr read_len; words = words.now; places = size log.old }) (model self)) result.report (model result.link) log.old log.new }
+    {
+        let tried = self.read(addr, read_len, words, log);
+        Called::of(self, tried)
+    }
+
+    #[tactic(auto, unfolding(ending::specs::Outcome::outcome))]
+    pub(crate) fn write(
+        &mut self,
+        addr: u16,
+        bytes: &[u8],
+        words: &[u32],
+        log: &mut [u32],
+    ) -> Result<Report, Refusal>
+        ensures { Made (master_write addr bytes.now) words.now self.old self.new result log.old log.new }
+    {
+        self.write_start(addr, bytes, 0, true, words, log)
+    }
+
+    #[tactic(auto, unfolding(ending::specs::Outcome::outcome))]
+    pub(crate) fn write_read(
+        &mut self,
+        addr: u16,
+        bytes: &[u8],
+        read_len: u8,
+        words: &[u32],
+        log: &mut [u32],
+    ) -> Result<Report, Refusal>
+        ensures { Made (master_write_read addr bytes.now read_len) words.now self.old self.new result log.old log.new }
+    {
+        self.write_start(addr, bytes, usize::from(read_len), false, words, log)
+    }
+
+    // Without `autoend` a read of `read_len` bytes follows. Whether the bus is free is looked at first, then whether the length is good.
+    // A call of its own would take 50 instructions more, since its report would go through memory.
+    #[inline(always)]
+    fn write_start(
+        &mut self,
         addr: u16,
         bytes: &[u8],
         read_len: usize,
         autoend: bool,
         words: &[u32],
         log: &mut [u32],
-    ) -> Called
-        ensures { Matches (settled (impossible (model self)) (write_start addr bytes.now read_len autoend (get_or words.now 0 0) (get_or words.now 1 0) (model self)) words.now (size log.old) (model self)) result.report (model result.link) log.old log.new }
+    ) -> Result<Report, Refusal>
+        ensures { Matches (settled (impossible (model self.old)) (write_start addr bytes.now read_len autoend (get_or words.now 0 0) (get_or words.now 1 0) (model self.old)) words.now (size log.old) (model self.old)) (report_of result) (model self.new) log.old log.new }
     {
-        let mut address = self.address;
-        let mut watchdog = self.watchdog;
-        let mut index = self.index;
-        let mut length = self.length;
-        let mut length_write_read = self.length_write_read;
-        let mut data = self.data;
-        let report = write_fields(
-            &mut address,
-            &mut watchdog,
-            &mut index,
-            &mut length,
-            &mut length_write_read,
-            &mut data,
-            addr,
-            bytes,
-            read_len,
-            autoend,
-            words,
-            log,
-        );
-        Called {
-            link: Link {
-                address,
-                watchdog,
-                index,
-                length,
-                errors: self.errors,
-                length_write_read,
-                data,
-            },
-            report,
+        self.possible()?;
+        if Cr2::starting(word_at(words, 0)) {
+            return looked(Answer::Pending, words, log);
         }
+        let n = bytes.len();
+        if !length_allowed(n) {
+            return looked(Answer::BadLength, words, log);
+        }
+        let report = write_opened(addr, n, autoend, words, log)?;
+        self.begin(addr, n);
+        self.length_write_read = read_len;
+        self.data[..n].copy_from_slice(bytes);
+        Ok(report)
     }
 
-    // Receives bytes into the link's buffer.
-    pub fn master_read(self, addr: u16, read_len: u8, words: &[u32], log: &mut [u32]) -> Called
-        ensures { Matches (outcome (record { call = master_read addr read_len; words = words.now; places = size log.old }) (model self)) result.report (model result.link) log.old log.new }
+    // The part of the buffer that is to be filled is cleared.
+    #[tactic(auto, using(access::proofs::Over::over_front), unfolding(ending::specs::Outcome::outcome))]
+    pub(crate) fn read(
+        &mut self,
+        addr: u16,
+        read_len: u8,
+        words: &[u32],
+        log: &mut [u32],
+    ) -> Result<Report, Refusal>
+        ensures { Made (master_read addr read_len) words.now self.old self.new result log.old log.new }
     {
-        let mut address = self.address;
-        let mut watchdog = self.watchdog;
-        let mut index = self.index;
-        let mut length = self.length;
-        let mut errors = self.errors;
-        let mut length_write_read = self.length_write_read;
-        let mut data = self.data;
-        let report = read_fields(
-            &mut address,
-            &mut watchdog,
-            &mut index,
-            &mut length,
-            &mut errors,
-            &mut length_write_read,
-            &mut data,
-            addr,
-            read_len,
-            words,
-            log,
-        );
-        Called {
-            link: Link {
-                address,
-                watchdog,
-                index,
-                length,
-                errors,
-                length_write_read,
-                data,
-            },
-            report,
+        self.possible()?;
+        if Cr2::starting(word_at(words, 0)) {
+            return looked(Answer::Pending, words, log);
         }
+        let n = usize::from(read_len);
+        let report = read_opened(addr, n, words, log)?;
+        self.begin(addr, n);
+        self.data[..n].fill(0);
+        Ok(report)
     }
 }

@@ -1,5 +1,5 @@
 -- The parked call after its access. `w` is the word that the access read; after a write it does not matter.
-use Rattle.std.specs.Prelude.{ℕ, ◌+◌, Bool, false, cond, [], ◌∷◌, eqb}
+use Rattle.std.specs.Prelude.{ℕ, ◌+◌, Bool, false, cond, [], ◌∷◌, eqb, Option}
 use Rattle.answers.specs.Answers.{Said, says}
 use Rattle.wanted.specs.declared.Wanted.{Wanted}
 use Rattle.wanted.specs.declared.Found.{Found}
@@ -51,7 +51,7 @@ answer Stopf p = stop_answer p
 answer (Addressed isr) p = says 0x41 (address_code isr ∷ direction_of isr ∷ [])
 
 -- the phase that a found flag leads to
-abbrev pub after_found : Found → Parked → Phase
+abbrev pub after_found : Option Found → Parked → Phase
 after_found flag p = after_found_of flag p.kind (more p)
 
 -- the phase after the access

@@ -18,55 +18,54 @@ fn wanted(kind: Kind, more: bool) -> Wanted
     ensures { result ≡ wanted_of kind more }
 {
     if kind.incoming() {
-        return Wanted::Rxne;
+        Wanted::Rxne
+    } else if kind.restarts() && !more {
+        Wanted::Tc
+    } else {
+        Wanted::Txis
     }
-    if more {
-        return Wanted::Txis;
-    }
-    if kind.restarts() {
-        return Wanted::Tc;
-    }
-    Wanted::Txis
 }
 
 impl Parked {
+    #[tactic(auto, unfolding(crate::specs::After::whole, crate::specs::After::compared))]
     fn whole(self) -> bool
         ensures { result ≡ whole self }
     {
-        let kind = self.kind;
-        let compared = compared(kind, self.more(), self.span());
-        self.count == compared
+        self.count == compared(self.kind, self.more(), self.span())
     }
 
     // ADDR is left set, so that `slave_wait_addressed` finds it.
+    #[tactic(auto, unfolding(crate::specs::After::addr_answer))]
     fn addr_answer(self) -> Answer
         ensures { said result ≡ addr_answer self }
     {
         if self.whole() {
-            return Answer::Done;
+            Answer::Done
+        } else {
+            Answer::IncorrectFrameSize(self.count)
         }
-        Answer::IncorrectFrameSize(self.count)
     }
 
+    #[tactic(auto, unfolding(crate::specs::After::stop_answer))]
     fn stop_answer(self) -> Answer
         ensures { said result ≡ stop_answer self }
     {
         if self.whole() {
-            return Answer::Done;
+            Answer::Done
+        } else if self.count == 0 {
+            Answer::Nack
+        } else {
+            Answer::IncorrectFrameSize(self.count)
         }
-        if self.count == 0 {
-            return Answer::Nack;
-        }
-        Answer::IncorrectFrameSize(self.count)
     }
 
     // The flags of an ISR word: the wanted one, then the others in the order of `busy_wait`.
+    #[tactic(auto, unfolding(crate::specs::After::wanted))]
     pub fn busy_wait(self, isr: u32) -> Phase
         ensures { result ≡ after_found (found_in isr (wanted self)) self }
     {
-        let kind = self.kind;
         let more = self.more();
-        after_found(wanted(kind, more).found_in(isr), kind, more)
+        after_found(wanted(self.kind, more).found_in(isr), self.kind, more)
     }
 
     // The answer where no access follows.

@@ -8,16 +8,16 @@ pub mod machine;
 pub mod open;
 pub mod refusal;
 
-// The next access, by the first number of its log entry; of a read, whether its byte goes to the buffer.
-#[derive(Clone, Copy)]
+// The next access, by the first number of its log entry.
+#[derive(Clone, Copy, Debug, PartialEq, Eq)]
 pub enum Next {
-    Read(u32, bool),
-    Write(u32, u32),
-    Over(End),
+    // `keep` says that the byte that comes in goes to the buffer, to the place of the call's count.
+    Read { number: u32, keep: bool },
+    Write { number: u32, word: u32 },
 }
 
 // A call that is parked. Begun with these lengths of the slices; so many bytes went out or came in.
-#[derive(Clone, Copy)]
+#[derive(Clone, Copy, Debug, PartialEq, Eq)]
 pub struct Parked {
     pub kind: Kind,
     pub address: u8,

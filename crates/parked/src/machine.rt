@@ -1,5 +1,6 @@
 // A parked call: the access that it wants next, and the call after that access.
-ghost use Rattle.std.specs.Prelude.{◌≡◌, cond};
+ghost use Rattle.std.specs.Prelude.{◌≡◌, cond, [], ◌∷◌};
+ghost use Rattle.answers.specs.Answers.{said, says};
 ghost use Rattle.fields.specs.Words.{sadd8};
 ghost use Rattle.fields.specs.Layout.{TXIS, ADDR, ◌has◌};
 ghost use Rattle.flags.specs.Flags.{address_code, direction_of};
@@ -18,69 +19,100 @@ use phases::{End, Kind, Phase, Role};
 // The next access.
 impl Parked {
     // The length that the count counts to.
+    #[tactic(auto, unfolding(crate::specs::Wants::span))]
     pub fn span(self) -> usize
         ensures { result ≡ span self }
     {
-        let kind = self.kind;
-        if kind.incoming() {
-            return self.receive;
+        if self.kind.incoming() {
+            self.receive
+        } else {
+            self.send
         }
-        self.send
     }
 
     // Whether a byte is left to send, or a place to fill.
+    #[tactic(auto, unfolding(crate::specs::Wants::more))]
     pub fn more(self) -> bool
         ensures { result ≡ more self }
     {
-        let span = self.span();
-        self.count < span
+        self.count < self.span()
     }
 
     // CR2 of the set-up, in the word read.
     pub fn setup_word(self, cr2: u32) -> u32
         ensures { result ≡ setup_word self.kind cr2 (sadd8 self.address) self.send self.receive }
     {
-        let kind = self.kind;
-        kind.setup_word(cr2, Cr2::sadd8(self.address), self.send, self.receive)
+        self.kind
+            .setup_word(cr2, Cr2::sadd8(self.address), self.send, self.receive)
     }
 
     fn wants_byte(self, byte: u8) -> Next
         ensures { result ≡ wants_byte (incoming self.kind) (more self) byte }
     {
-        let kind = self.kind;
-        if kind.incoming() {
-            return Next::Read(Rxdr::READ, self.more());
+        if self.kind.incoming() {
+            Next::Read {
+                number: Rxdr::READ,
+                keep: self.more(),
+            }
+        } else {
+            Next::Write {
+                number: Txdr::WRITE,
+                word: Txdr::sent(byte),
+            }
         }
-        Next::Write(Txdr::WRITE, Txdr::sent(byte))
     }
 
-    // `byte` is the one to send at the count.
-    pub fn wants(self, byte: u8) -> Next
+    // The next access, or why none follows. `byte` is the one to send at the count.
+    #[tactic(auto, unfolding(crate::specs::Wants::wants))]
+    pub fn wants(self, byte: u8) -> Result<Next, End>
         ensures { result ≡ wants self byte }
     {
-        let phase = self.phase;
-        match phase {
+        Ok(match self.phase {
             Phase::Open(step) => self.wants_opening(step),
-            Phase::Wait => Next::Read(Isr::READ, false),
+            Phase::Wait | Phase::FlushTxis | Phase::FlushTxe | Phase::Listen | Phase::Code =>
+                Next::Read {
+                    number: Isr::READ,
+                    keep: false,
+                },
             Phase::Transfer => self.wants_byte(byte),
-            Phase::Restart => Next::Write(
-                Cr2::WRITE,
-                Cr2::started(0, Cr2::sadd8(self.address), self.receive, true, true),
-            ),
-            Phase::Stretched => Next::Read(Cr2::READ, false),
-            Phase::Refuse(cr2) => Next::Write(Cr2::WRITE, Cr2::refused(cr2)),
-            Phase::ClearBerr => Next::Write(Icr::WRITE, Icr::cleared(Isr::BERR)),
-            Phase::ClearArlo => Next::Write(Icr::WRITE, Icr::cleared(Isr::ARLO)),
-            Phase::ClearNackf => Next::Write(Icr::WRITE, Icr::cleared(Isr::NACKF)),
-            Phase::ClearStopf => Next::Write(Icr::WRITE, Icr::cleared(Isr::STOPF)),
-            Phase::FlushTxis => Next::Read(Isr::READ, false),
-            Phase::FlushDummy => Next::Write(Txdr::WRITE, Txdr::sent(0)),
-            Phase::FlushTxe => Next::Read(Isr::READ, false),
-            Phase::FlushEmpty => Next::Write(Isr::WRITE, Isr::flushed()),
-            Phase::Listen => Next::Read(Isr::READ, false),
-            Phase::Code => Next::Read(Isr::READ, false),
-            Phase::Ended(end) => Next::Over(end),
-        }
+            Phase::Restart => Next::Write {
+                number: Cr2::WRITE,
+                word: Cr2::started(0, Cr2::sadd8(self.address), self.receive, true, true),
+            },
+            Phase::Stretched => Next::Read {
+                number: Cr2::READ,
+                keep: false,
+            },
+            Phase::Refuse(cr2) => Next::Write {
+                number: Cr2::WRITE,
+                word: Cr2::refused(cr2),
+            },
+            Phase::ClearBerr => Next::Write {
+                number: Icr::WRITE,
+                word: Icr::cleared(Isr::BERR),
+            },
+            Phase::ClearArlo => Next::Write {
+                number: Icr::WRITE,
+                word: Icr::cleared(Isr::ARLO),
+            },
+            Phase::ClearNackf => Next::Write {
+                number: Icr::WRITE,
+                word: Icr::cleared(Isr::NACKF),
+            },
+            Phase::ClearStopf => Next::Write {
+                number: Icr::WRITE,
+                word: Icr::cleared(Isr::STOPF),
+            },
+            Phase::FlushDummy => Next::Write {
+                number: Txdr::WRITE,
+                word: Txdr::sent(0),
+            },
+            Phase::FlushEmpty => Next::Write {
+                number: Isr::WRITE,
+                word: Isr::flushed(),
+            },
+            Phase::Ended(end) => return Err(end),
+        })
     }
 }
 
@@ -89,9 +121,10 @@ fn pending_txis(isr: u32) -> Phase
     ensures { result ≡ cond (isr has TXIS) Phase.FlushDummy Phase.FlushTxe }
 {
     if Isr::TXIS.is_set(isr) {
-        return Phase::FlushDummy;
+        Phase::FlushDummy
+    } else {
+        Phase::FlushTxe
     }
-    Phase::FlushTxe
 }
 
 // Reads ISR until ADDR is set.
@@ -99,14 +132,15 @@ fn listened(isr: u32) -> Phase
     ensures { result ≡ cond (isr has ADDR) Phase.Code Phase.Listen }
 {
     if Isr::ADDR.is_set(isr) {
-        return Phase::Code;
+        Phase::Code
+    } else {
+        Phase::Listen
     }
-    Phase::Listen
 }
 
 // The address that the master sent, and who sends next.
 pub fn addressed(isr: u32) -> Answer
-    ensures { result ≡ Answer.Addressed (address_code isr) (direction_of isr) }
+    ensures { said result ≡ says 0x41 (address_code isr ∷ direction_of isr ∷ []) }
 {
     Answer::Addressed {
         address: Isr::address_code(isr),
@@ -119,18 +153,13 @@ impl Parked {
     fn phase_after(self, word: u32) -> Phase
         ensures { result ≡ phase_at self.phase self word }
     {
-        let phase = self.phase;
-        let kind = self.kind;
-        match phase {
-            Phase::Open(step) => before_wait::after(step, kind, word),
+        match self.phase {
+            Phase::Open(step) => before_wait::after(step, self.kind, word),
             Phase::Wait => self.busy_wait(word),
-            Phase::Transfer => Phase::Wait,
-            Phase::Restart => Phase::Wait,
+            Phase::Transfer | Phase::Restart | Phase::Refuse(_) | Phase::ClearNackf => Phase::Wait,
             Phase::Stretched => Phase::Refuse(word),
-            Phase::Refuse(_) => Phase::Wait,
             Phase::ClearBerr => Phase::Ended(End::Berr),
             Phase::ClearArlo => Phase::Ended(End::Arlo),
-            Phase::ClearNackf => Phase::Wait,
             Phase::ClearStopf => Phase::Ended(End::Stopf),
             Phase::FlushTxis => pending_txis(word),
             Phase::FlushDummy => Phase::FlushTxe,
@@ -143,67 +172,41 @@ impl Parked {
     }
 
     // The second half of a `write_read` begins.
+    #[tactic(auto, unfolding(crate::specs::After::turns))]
     fn turns(self) -> bool
         ensures { result ≡ turns self }
     {
-        let phase = self.phase;
-        let role = phase.role();
-        let kind = self.kind;
-        match role {
-            Role::Byte => false,
-            Role::Second => kind.restarts(),
-            Role::Other => false,
-            Role::Nothing => false,
-        }
+        self.phase.role() == Role::Second && self.kind.restarts()
     }
 
     // A byte goes out or comes in.
+    #[tactic(auto, unfolding(crate::specs::After::moves))]
     fn moves(self) -> bool
         ensures { result ≡ moves self }
     {
-        let phase = self.phase;
-        let role = phase.role();
-        match role {
-            Role::Byte => self.more(),
-            Role::Second => false,
-            Role::Other => false,
-            Role::Nothing => false,
-        }
+        self.phase.role() == Role::Byte && self.more()
     }
 
+    #[tactic(auto, unfolding(crate::specs::After::after))]
     pub fn after(self, word: u32) -> Parked
         ensures { result ≡ after self word }
     {
         let phase = self.phase_after(word);
         if self.turns() {
-            return Parked {
+            Parked {
                 kind: Kind::ReadBack,
-                address: self.address,
-                send: self.send,
-                receive: self.receive,
                 phase,
                 count: 0,
-            };
-        }
-        let kind = self.kind;
-        let count = self.count;
-        if self.moves() {
-            return Parked {
-                kind,
-                address: self.address,
-                send: self.send,
-                receive: self.receive,
+                ..self
+            }
+        } else if self.moves() {
+            Parked {
                 phase,
-                count: count + 1,
-            };
-        }
-        Parked {
-            kind,
-            address: self.address,
-            send: self.send,
-            receive: self.receive,
-            phase,
-            count,
+                count: self.count + 1,
+                ..self
+            }
+        } else {
+            Parked { phase, ..self }
         }
     }
 }

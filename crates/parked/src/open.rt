@@ -13,14 +13,30 @@ impl Parked {
         ensures { result ≡ wants_opening step self }
     {
         match step {
-            Opening::Start => Next::Read(Cr2::READ, false),
-            Opening::Drain => Next::Read(Rxdr::READ, false),
-            Opening::Modify => Next::Read(Cr2::READ, false),
-            Opening::Setup(cr2) => Next::Write(Cr2::WRITE, self.setup_word(cr2)),
-            Opening::Flush => Next::Write(Isr::WRITE, Isr::flushed()),
-            Opening::Release => Next::Write(Icr::WRITE, Icr::cleared(Isr::ADDR)),
-            Opening::Probe => Next::Read(Isr::READ, false),
-            Opening::Drop => Next::Read(Rxdr::READ, false),
+            Opening::Start | Opening::Modify => Next::Read {
+                number: Cr2::READ,
+                keep: false,
+            },
+            Opening::Drain | Opening::Drop => Next::Read {
+                number: Rxdr::READ,
+                keep: false,
+            },
+            Opening::Setup(cr2) => Next::Write {
+                number: Cr2::WRITE,
+                word: self.setup_word(cr2),
+            },
+            Opening::Flush => Next::Write {
+                number: Isr::WRITE,
+                word: Isr::flushed(),
+            },
+            Opening::Release => Next::Write {
+                number: Icr::WRITE,
+                word: Icr::cleared(Isr::ADDR),
+            },
+            Opening::Probe => Next::Read {
+                number: Isr::READ,
+                keep: false,
+            },
         }
     }
 }

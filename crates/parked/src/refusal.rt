@@ -10,34 +10,18 @@ impl Parked {
     fn ended(self) -> bool
         ensures { result ≡ ended self }
     {
-        let phase = self.phase;
-        let role = phase.role();
-        match role {
-            Role::Byte => false,
-            Role::Second => false,
-            Role::Other => false,
-            Role::Nothing => true,
-        }
+        self.phase.role() == Role::Nothing
     }
 
     // Whether a run is a wrong call, with slices of these lengths.
+    #[tactic(auto, unfolding(crate::specs::Refusals::wrong))]
     pub fn wrong(self, send: usize, receive: usize) -> bool
         ensures { result ≡ wrong self send receive }
     {
-        if self.ended() {
-            return true;
-        }
-        if self.send != send {
-            return true;
-        }
-        if self.receive != receive {
-            return true;
-        }
-        let kind = self.kind;
-        if kind.lengths(send, receive) {
-            let span = self.span();
-            return span < self.count;
-        }
-        true
+        self.ended()
+            || self.send != send
+            || self.receive != receive
+            || !self.kind.lengths(send, receive)
+            || self.span() < self.count
     }
 }

@@ -1,3 +1,4 @@
 pub mod Kinds
 pub mod Lengths
+pub mod Numbers
 pub mod Phases

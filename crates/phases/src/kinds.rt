@@ -1,9 +1,27 @@
 // What tells the waiting calls apart.
 ghost use Rattle.std.specs.Prelude.{◌≡◌};
 ghost use Rattle.phases.specs.Kinds.{sends, receives, incoming, restarts, pads, opening, after_start, setup_word, after_setup, after_flush, after_release};
+ghost use Rattle.phases.specs.Numbers.{kind_of};
 
 use crate::{Kind, Opening, Phase};
 use cr2::Cr2;
+
+// A kind by its number, `kind as u64`. Every number is taken.
+impl From<u64> for Kind {
+    ghost from_gives = { λ number kind. kind ≡ kind_of number };
+
+    fn from(number: u64) -> Kind {
+        match number {
+            0 => Kind::Write,
+            1 => Kind::Read,
+            2 => Kind::WriteRead,
+            3 => Kind::ReadBack,
+            4 => Kind::SlaveWrite,
+            5 => Kind::SlaveRead,
+            _ => Kind::SlaveWaitAddressed,
+        }
+    }
+}
 
 // What a kind of call has and counts.
 impl Kind {
@@ -11,50 +29,44 @@ impl Kind {
     pub fn sends(self) -> bool
         ensures { result ≡ sends self }
     {
-        match self {
-            Kind::Write | Kind::WriteRead | Kind::ReadBack | Kind::SlaveWrite => true,
-            Kind::Read | Kind::SlaveRead | Kind::SlaveWaitAddressed => false,
-        }
+        matches!(
+            self,
+            Kind::Write | Kind::WriteRead | Kind::ReadBack | Kind::SlaveWrite
+        )
     }
 
     // Whether it has a buffer to fill.
     pub fn receives(self) -> bool
         ensures { result ≡ receives self }
     {
-        match self {
-            Kind::Write | Kind::SlaveWrite | Kind::SlaveWaitAddressed => false,
-            Kind::Read | Kind::WriteRead | Kind::ReadBack | Kind::SlaveRead => true,
-        }
+        matches!(
+            self,
+            Kind::Read | Kind::WriteRead | Kind::ReadBack | Kind::SlaveRead
+        )
     }
 
     // Whether its count is of bytes that came in.
     pub fn incoming(self) -> bool
         ensures { result ≡ incoming self }
     {
-        match self {
-            Kind::Write | Kind::WriteRead | Kind::SlaveWrite => false,
-            Kind::Read | Kind::ReadBack | Kind::SlaveRead | Kind::SlaveWaitAddressed => true,
-        }
+        matches!(
+            self,
+            Kind::Read | Kind::ReadBack | Kind::SlaveRead | Kind::SlaveWaitAddressed
+        )
     }
 
     // Whether it restarts once its bytes are sent.
     pub fn restarts(self) -> bool
         ensures { result ≡ restarts self }
     {
-        match self {
-            Kind::WriteRead => true,
-            _ => false,
-        }
+        self == Kind::WriteRead
     }
 
     // Whether it goes on sending after its last byte.
     pub fn pads(self) -> bool
         ensures { result ≡ pads self }
     {
-        match self {
-            Kind::SlaveWrite => true,
-            _ => false,
-        }
+        self == Kind::SlaveWrite
     }
 }
 
@@ -65,11 +77,9 @@ impl Kind {
         ensures { result ≡ opening self }
     {
         match self {
-            Kind::Write | Kind::Read | Kind::WriteRead | Kind::ReadBack => Phase::Open(
-                Opening::Start,
-            ),
             Kind::SlaveWrite | Kind::SlaveRead => Phase::Open(Opening::Modify),
             Kind::SlaveWaitAddressed => Phase::Listen,
+            _ => Phase::Open(Opening::Start),
         }
     }
 
@@ -90,9 +100,8 @@ impl Kind {
     {
         match self {
             Kind::Write => Cr2::started(cr2, sadd, send, false, true),
-            Kind::Read => Cr2::started(cr2, sadd, receive, true, true),
+            Kind::Read | Kind::ReadBack => Cr2::started(cr2, sadd, receive, true, true),
             Kind::WriteRead => Cr2::started(cr2, sadd, send, false, false),
-            Kind::ReadBack => Cr2::started(cr2, sadd, receive, true, true),
             Kind::SlaveWrite => Cr2::sized(cr2, send, false),
             Kind::SlaveRead => Cr2::sized(cr2, receive, true),
             Kind::SlaveWaitAddressed => cr2,
@@ -114,9 +123,10 @@ impl Kind {
     pub fn after_flush(self) -> Opening
         ensures { result ≡ after_flush self }
     {
-        match self {
-            Kind::WriteRead => Opening::Setup(0),
-            _ => Opening::Release,
+        if self == Kind::WriteRead {
+            Opening::Setup(0)
+        } else {
+            Opening::Release
         }
     }
 
@@ -124,9 +134,10 @@ impl Kind {
     pub fn after_release(self) -> Phase
         ensures { result ≡ after_release self }
     {
-        match self {
-            Kind::SlaveRead => Phase::Open(Opening::Probe),
-            _ => Phase::Wait,
+        if self == Kind::SlaveRead {
+            Phase::Open(Opening::Probe)
+        } else {
+            Phase::Wait
         }
     }
 }

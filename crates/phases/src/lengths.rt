@@ -6,22 +6,23 @@ use crate::Kind;
 use limits::length_allowed;
 
 // A slice that the call has is of 1 to 255 bytes, one that it does not have is empty.
+#[tactic(auto, unfolding(crate::specs::Lengths::fits))]
 fn fits(used: bool, length: usize) -> bool
     ensures { result ≡ fits used length }
 {
     if used {
-        return length_allowed(length);
+        length_allowed(length)
+    } else {
+        length == 0
     }
-    length == 0
 }
 
 impl Kind {
+    // Whether a call of this kind begins with slices of these lengths.
+    #[tactic(auto, unfolding(crate::specs::Lengths::lengths))]
     pub fn lengths(self, send: usize, receive: usize) -> bool
         ensures { result ≡ lengths self send receive }
     {
-        if fits(self.sends(), send) {
-            return fits(self.receives(), receive);
-        }
-        false
+        fits(self.sends(), send) && fits(self.receives(), receive)
     }
 }

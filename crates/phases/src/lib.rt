@@ -9,7 +9,7 @@ pub mod kinds;
 pub mod lengths;
 
 // The calls that wait.
-#[derive(Clone, Copy)]
+#[derive(Clone, Copy, Debug, PartialEq, Eq)]
 pub enum Kind {
     Write,
     Read,
@@ -22,7 +22,7 @@ pub enum Kind {
 }
 
 // The accesses before the first wait.
-#[derive(Clone, Copy)]
+#[derive(Clone, Copy, Debug, PartialEq, Eq)]
 pub enum Opening {
     // Reads CR2 until START is clear.
     Start,
@@ -41,7 +41,7 @@ pub enum Opening {
 }
 
 // Why no access follows. A word or room that is missing parks the call, the others end it.
-#[derive(Clone, Copy)]
+#[derive(Clone, Copy, Debug, PartialEq, Eq)]
 pub enum End {
     OutOfWords,
     LogFull,
@@ -54,7 +54,7 @@ pub enum End {
     Addressed(u32),
 }
 
-#[derive(Clone, Copy)]
+#[derive(Clone, Copy, Debug, PartialEq, Eq)]
 pub enum Phase {
     Open(Opening),
     // `busy_wait` reads ISR.
@@ -85,7 +85,7 @@ pub enum Phase {
 }
 
 // What an access does to the count.
-#[derive(Clone, Copy)]
+#[derive(Clone, Copy, Debug, PartialEq, Eq)]
 pub enum Role {
     // A byte goes out or comes in.
     Byte,

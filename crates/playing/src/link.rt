@@ -1,11 +1,11 @@
 // The calls of the non-blocking driver.
+use access::Report;
 use answers::Answer;
 use nonblocking::{Called, Link};
 use script::calls::*;
 use script::parse::bytes_of;
 use script::settings::configuration;
 use script::slots::*;
-use settling::refused;
 use text::Bytes;
 use text::tokens::part;
 
@@ -13,7 +13,7 @@ use text::tokens::part;
 fn put(link: Link) -> Called {
     Called {
         link,
-        report: refused(Answer::Done),
+        report: Report::without_access(Answer::Done),
     }
 }
 

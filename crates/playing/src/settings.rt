@@ -1,15 +1,14 @@
 // The calls of the configuration.
-use config::{Config, Timing};
+use config::Config;
 use print::lines::{TOLD_BAD_LINE, TOLD_PERIOD, TOLD_WORD};
 use script::calls::*;
 use script::settings::configuration;
 use script::slots::*;
 
 fn timing(config: Config, clock: u32) -> [u64; 6] {
-    let timing = config.timing_bits(clock);
-    match timing {
-        Timing::Bits(bits) => [TOLD_WORD, 0, 0, bits as u64, 0, 0],
-        Timing::NoRate => [7, 0, 0, 0, 0, 0],
+    match config.timing_bits(clock) {
+        Ok(bits) => [TOLD_WORD, 0, 0, bits as u64, 0, 0],
+        Err(_) => [7, 0, 0, 0, 0, 0],
     }
 }
 

@@ -4,7 +4,7 @@ ghost use Rattle.fields.specs.Words.{configured, interrupts};
 
 use fields::Field;
 
-#[derive(Clone, Copy)]
+#[derive(Clone, Copy, Debug, PartialEq, Eq)]
 pub struct Cr1;
 
 impl Cr1 {
@@ -43,6 +43,7 @@ impl Cr1 {
     };
 
     // The unit switched on with its filters: construction.
+    #[tactic(auto, unfolding(fields::specs::Words::configured))]
     pub fn configured(cr1: u32, digital_filter: u8, analog_filter: bool) -> u32
         ensures { result ≡ configured cr1 digital_filter analog_filter }
     {
@@ -52,6 +53,7 @@ impl Cr1 {
     }
 
     // All interrupts of the non-blocking driver: `listen` and `unlisten`.
+    #[tactic(auto, unfolding(fields::specs::Words::interrupts))]
     pub fn interrupts(cr1: u32, on: bool) -> u32
         ensures { result ≡ interrupts cr1 on }
     {

@@ -6,7 +6,7 @@ ghost use Rattle.config.specs.Config.{mask_number};
 use config::SlaveAddressMask;
 use fields::Field;
 
-#[derive(Clone, Copy)]
+#[derive(Clone, Copy, Debug, PartialEq, Eq)]
 pub struct Oar1;
 
 impl Oar1 {
@@ -32,6 +32,7 @@ impl Oar1 {
     };
 
     // The low seven bits of an address.
+    #[tactic(auto, unfolding(fields::specs::Words::own_seven))]
     pub fn own_seven(address: u16, mode: bool, enabled: bool) -> u32
         ensures { result ≡ own_seven address mode enabled }
     {
@@ -41,6 +42,7 @@ impl Oar1 {
     }
 
     // The low ten bits of an address, as the non-blocking driver writes them.
+    #[tactic(auto, unfolding(fields::specs::Words::own_ten))]
     pub fn own_ten(address: u16) -> u32
         ensures { result ≡ own_ten address }
     {
@@ -50,7 +52,7 @@ impl Oar1 {
     }
 }
 
-#[derive(Clone, Copy)]
+#[derive(Clone, Copy, Debug, PartialEq, Eq)]
 pub struct Oar2;
 
 impl Oar2 {
@@ -68,6 +70,7 @@ impl Oar2 {
     };
 
     // The second address, with as many of its low bits masked as the mask says.
+    #[tactic(auto, unfolding(fields::specs::Words::own_second))]
     pub fn own_second(address: u8, mask: SlaveAddressMask) -> u32
         ensures { result ≡ own_second address (mask_number mask) }
     {

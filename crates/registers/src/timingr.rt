@@ -1,5 +1,5 @@
 // TIMINGR, whose fields are `Config`'s constants.
-#[derive(Clone, Copy)]
+#[derive(Clone, Copy, Debug, PartialEq, Eq)]
 pub struct Timingr;
 
 impl Timingr {

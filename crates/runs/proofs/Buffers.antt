@@ -9,6 +9,7 @@ use native.Mathlib.Omega.{arith}
 use lib.Dec.{eqb}
 use lib.ListN.{length, get_or, set}
 use lib.Seq.{sets}
+use Rattle.std.specs.Prelude.{Result, Ok, Err}
 use Rattle.answers.specs.Answers.{Said, says}
 use Rattle.fields.specs.Words.{received}
 use Rattle.phases.specs.declared.Kind.{Kind}
@@ -20,7 +21,7 @@ use Rattle.phases.specs.declared.Phase.TheVariants.{Open, Wait, Transfer, Restar
 use Rattle.phases.specs.declared.End.{End}
 use Rattle.phases.specs.declared.End.TheVariants.{OutOfWords, LogFull, BadLength, Berr, Arlo, Addr, Stopf, Addressed}
 use Rattle.parked.specs.declared.Next.{Next}
-use Rattle.parked.specs.declared.Next.TheVariants.{Read as ReadA, Write as WriteA, Over}
+use Rattle.parked.specs.declared.Next.TheVariants.{Read as ReadA, Write as WriteA}
 use Rattle.parked.specs.declared.Parked.{Parked}
 use Rattle.phases.specs.Kinds.{incoming, restarts}
 use Rattle.parked.specs.Wants.{span, more, wants_opening, wants_byte, wants_at, wants}
@@ -32,10 +33,10 @@ use Rattle.runs.specs.BufferLaw.{hearing, heard_in, heard, place, BufferLaw}
 use Rattle.runs.proofs.OneAccess.{outcome_wrong, outcome_right}
 use Rattle.runs.proofs.Sound.{Sound, sound_of, kept_run}
 
-abbrev keeps : Next → Bool
-keeps (ReadA o k) = k
-keeps (WriteA o w) = false
-keeps (Over a) = false
+abbrev keeps : Result Next End → Bool
+keeps (Ok (ReadA o k)) = k
+keeps (Ok (WriteA o w)) = false
+keeps (Err a) = false
 
 abbrev place_as : Kind → ℕ → ℕ
 place_as k i = cond (incoming k) i 0
@@ -55,7 +56,7 @@ record Moved (keep : Bool) (p : Parked) (here next : ℕ) : Type 0 where
 same : {p : Parked} {here next : ℕ} → next ≡ here → Moved false p here next
 same e = record { on = e; at = λ h. cc }
 
-opened : (o : Opening) (p : Parked) → Moved (keeps (wants_opening o p)) p (place_as p.kind p.count) (place_as p.kind p.count)
+opened : (o : Opening) (p : Parked) → Moved (keeps (Ok (wants_opening o p))) p (place_as p.kind p.count) (place_as p.kind p.count)
 opened Start p = same refl
 opened Drain p = same refl
 opened Modify p = same refl
@@ -65,7 +66,7 @@ opened Release p = same refl
 opened Probe p = same refl
 opened Drop p = same refl
 
-byte : (t u : Bool) (p : Parked) (x : ℕ) → Moved (keeps (wants_byte t u x)) p (cond t p.count 0) (cond t (cond u (p.count + 1) p.count) 0)
+byte : (t u : Bool) (p : Parked) (x : ℕ) → Moved (keeps (Ok (wants_byte t u x))) p (cond t p.count 0) (cond t (cond u (p.count + 1) p.count) 0)
 byte true true p x = record { on = add-one p.count; at = λ h. refl }
 byte true false p x = record { on = refl; at = λ h. refl }
 byte false u p x = same refl
@@ -108,18 +109,18 @@ record Filled (b : List ℕ) (p : Parked) (h : List ℕ) (q : Outcome) : Type 0 
   count : place q.parked ≡ place p + length h
 
 module _ (s : List ℕ) where
-  full_filled : (p : Parked) (b : List ℕ) (a : Next) (ws : List ℕ) → Filled b p [] (full a ws p b)
-  full_filled p b (Over e) ws = record { bytes = refl; count = sym (add-zero (place p)) }
-  full_filled p b (ReadA o k) [] = record { bytes = refl; count = sym (add-zero (place p)) }
-  full_filled p b (ReadA o k) (w ∷ ws) = record { bytes = refl; count = sym (add-zero (place p)) }
-  full_filled p b (WriteA o w) ws = record { bytes = refl; count = sym (add-zero (place p)) }
+  full_filled : (p : Parked) (b : List ℕ) (a : Result Next End) (ws : List ℕ) → Filled b p [] (full a ws p b)
+  full_filled p b (Err e) ws = record { bytes = refl; count = sym (add-zero (place p)) }
+  full_filled p b (Ok (ReadA o k)) [] = record { bytes = refl; count = sym (add-zero (place p)) }
+  full_filled p b (Ok (ReadA o k)) (w ∷ ws) = record { bytes = refl; count = sym (add-zero (place p)) }
+  full_filled p b (Ok (WriteA o w)) ws = record { bytes = refl; count = sym (add-zero (place p)) }
 
   step_filled : (n : ℕ) → ((p : Parked) (b ws : List ℕ) → Filled b p (heard_in s n p ws) (runs s n p b ws))
-      → (p : Parked) (b : List ℕ) (a : Next) → ((w : ℕ) → Moved (keeps a) p (place p) (place (after p w))) → (ws : List ℕ)
+      → (p : Parked) (b : List ℕ) (a : Result Next End) → ((w : ℕ) → Moved (keeps a) p (place p) (place (after p w))) → (ws : List ℕ)
       → Filled b p (hearing a ws p (heard_in s n)) (step a ws p b (runs s n))
-  step_filled n ih p b (Over e) h ws = record { bytes = refl; count = sym (add-zero (place p)) }
-  step_filled n ih p b (ReadA o k) h [] = record { bytes = refl; count = sym (add-zero (place p)) }
-  step_filled n ih p b (ReadA o true) h (w ∷ ws) =
+  step_filled n ih p b (Err e) h ws = record { bytes = refl; count = sym (add-zero (place p)) }
+  step_filled n ih p b (Ok (ReadA o k)) h [] = record { bytes = refl; count = sym (add-zero (place p)) }
+  step_filled n ih p b (Ok (ReadA o true)) h (w ∷ ws) =
       let r = ih (after p w) (set b p.count (received w)) ws in
       record {
         bytes =
@@ -128,10 +129,10 @@ module _ (s : List ℕ) where
             ∙ ap (λ (i : ℕ). sets (set b i (received w)) (suc (place p)) (heard_in s n (after p w) ws)) (sym ((h w).at refl));
         count = omega (arith, r.count, (h w).on);
       }
-  step_filled n ih p b (ReadA o false) h (w ∷ ws) =
+  step_filled n ih p b (Ok (ReadA o false)) h (w ∷ ws) =
       let r = ih (after p w) b ws in
       record { bytes = r.bytes ∙ ap (λ (i : ℕ). sets b i (heard_in s n (after p w) ws)) (h w).on; count = omega (arith, r.count, (h w).on) }
-  step_filled n ih p b (WriteA o w) h ws =
+  step_filled n ih p b (Ok (WriteA o w)) h ws =
       let r = ih (after p 0) b ws in
       record { bytes = r.bytes ∙ ap (λ (i : ℕ). sets b i (heard_in s n (after p 0) ws)) (h 0).on; count = omega (arith, r.count, (h 0).on) }
 
@@ -170,18 +171,18 @@ ended_told Stopf p false false h k x e = five (rw (h, k) at e)
 ended_told (Addressed isr) p t u h k x e = not_five (λ z. omega arith) e
 
 module _ (s : List ℕ) where
-  full_told : (p : Parked) (b : List ℕ) (a : Next) (ws : List ℕ) → Told (full a ws p b)
-  full_told p b (Over end) ws x e = ended_told end p (whole p) (eqb p.count 0) refl refl x e
-  full_told p b (ReadA o k) [] x e = not_five (λ z. omega arith) e
-  full_told p b (ReadA o k) (w ∷ ws) x e = not_five (λ z. omega arith) e
-  full_told p b (WriteA o w) ws x e = not_five (λ z. omega arith) e
+  full_told : (p : Parked) (b : List ℕ) (a : Result Next End) (ws : List ℕ) → Told (full a ws p b)
+  full_told p b (Err end) ws x e = ended_told end p (whole p) (eqb p.count 0) refl refl x e
+  full_told p b (Ok (ReadA o k)) [] x e = not_five (λ z. omega arith) e
+  full_told p b (Ok (ReadA o k)) (w ∷ ws) x e = not_five (λ z. omega arith) e
+  full_told p b (Ok (WriteA o w)) ws x e = not_five (λ z. omega arith) e
 
   step_told : (n : ℕ) → ((p : Parked) (b ws : List ℕ) → Told (runs s n p b ws))
-      → (p : Parked) (b : List ℕ) (a : Next) (ws : List ℕ) → Told (step a ws p b (runs s n))
-  step_told n ih p b (Over end) ws x e = ended_told end p (whole p) (eqb p.count 0) refl refl x e
-  step_told n ih p b (ReadA o k) [] x e = not_five (λ z. omega arith) e
-  step_told n ih p b (ReadA o k) (w ∷ ws) x e = ih (after p w) (kept k p.count w b) ws x e
-  step_told n ih p b (WriteA o w) ws x e = ih (after p 0) b ws x e
+      → (p : Parked) (b : List ℕ) (a : Result Next End) (ws : List ℕ) → Told (step a ws p b (runs s n))
+  step_told n ih p b (Err end) ws x e = ended_told end p (whole p) (eqb p.count 0) refl refl x e
+  step_told n ih p b (Ok (ReadA o k)) [] x e = not_five (λ z. omega arith) e
+  step_told n ih p b (Ok (ReadA o k)) (w ∷ ws) x e = ih (after p w) (kept k p.count w b) ws x e
+  step_told n ih p b (Ok (WriteA o w)) ws x e = ih (after p 0) b ws x e
 
   told : (n : ℕ) (p : Parked) (b ws : List ℕ) → Told (runs s n p b ws)
   unfolding runs

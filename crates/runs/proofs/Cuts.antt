@@ -7,13 +7,14 @@ use native.Mathlib.Nat.{add-zero, zero-add}
 use native.Mathlib.Numerals.{one-add}
 use native.Mathlib.Omega.{arith}
 use lib.ListN.{length, drop}
+use Rattle.std.specs.Prelude.{Result, Ok, Err}
 use Rattle.answers.specs.Answers.{Said, says}
 use Rattle.phases.specs.declared.End.{End}
 use Rattle.phases.specs.declared.End.TheVariants.{BadLength}
 use Rattle.phases.specs.declared.Phase.{Phase}
 use Rattle.phases.specs.declared.Phase.TheVariants.{Open, Wait, Transfer, Restart, Stretched, Refuse, ClearBerr, ClearArlo, ClearNackf, ClearStopf, FlushTxis, FlushDummy, FlushTxe, FlushEmpty, Listen, Code, Ended}
 use Rattle.parked.specs.declared.Next.{Next}
-use Rattle.parked.specs.declared.Next.TheVariants.{Read, Write, Over}
+use Rattle.parked.specs.declared.Next.TheVariants.{Read, Write}
 use Rattle.parked.specs.declared.Parked.{Parked}
 use Rattle.parked.specs.After.{after}
 use Rattle.phases.specs.Phases.{role}
@@ -35,26 +36,26 @@ abbrev Stays : List ℕ → ℕ → List ℕ → Outcome → Type 0
 Stays s m ws q = Spare m q → runs s m q.parked q.buffer (drop q.taken ws) ≡ stopped q.answer q.parked q.buffer
 
 module _ (s : List ℕ) (m : ℕ) where
-  stuck_read : (p : Parked) (b ws : List ℕ) (o : ℕ) (k : Bool) → next s p ≡ Read o k → (length ws ≡ 0 → ⊥) → m ≡ 0 → runs s m p b ws ≡ stopped (says 10 []) p b
+  stuck_read : (p : Parked) (b ws : List ℕ) (o : ℕ) (k : Bool) → next s p ≡ Ok (Read o k) → (length ws ≡ 0 → ⊥) → m ≡ 0 → runs s m p b ws ≡ stopped (says 10 []) p b
   stuck_read p b ws o k e some h = rw h (full_read s p b ws o k e some)
 
-  stuck_write : (p : Parked) (b ws : List ℕ) (o w : ℕ) → next s p ≡ Write o w → m ≡ 0 → runs s m p b ws ≡ stopped (says 10 []) p b
+  stuck_write : (p : Parked) (b ws : List ℕ) (o w : ℕ) → next s p ≡ Ok (Write o w) → m ≡ 0 → runs s m p b ws ≡ stopped (says 10 []) p b
   stuck_write p b ws o w e h = rw h (full_write s p b ws o w e)
 
-  stays_full : (p : Parked) (b : List ℕ) (a : Next) → next s p ≡ a → (ws : List ℕ) → Stays s m ws (full a ws p b)
-  stays_full p b (Over end) e ws h = run_over s p b m ws end e
-  stays_full p b (Read o k) e [] h = run_out s p b m [] o k e refl
-  stays_full p b (Read o k) e (w ∷ ws) h = stuck_read p b (w ∷ ws) o k e (some w ws) (h refl)
-  stays_full p b (Write o w) e ws h = stuck_write p b ws o w e (h refl)
+  stays_full : (p : Parked) (b : List ℕ) (a : Result Next End) → next s p ≡ a → (ws : List ℕ) → Stays s m ws (full a ws p b)
+  stays_full p b (Err end) e ws h = run_over s p b m ws end e
+  stays_full p b (Ok (Read o k)) e [] h = run_out s p b m [] o k e refl
+  stays_full p b (Ok (Read o k)) e (w ∷ ws) h = stuck_read p b (w ∷ ws) o k e (some w ws) (h refl)
+  stays_full p b (Ok (Write o w)) e ws h = stuck_write p b ws o w e (h refl)
 
   stays_step : (n : ℕ) → ((p : Parked) (b ws : List ℕ) → Stays s m ws (runs s n p b ws))
-      → (p : Parked) (b : List ℕ) (a : Next) → next s p ≡ a → (ws : List ℕ) → Stays s m ws (step a ws p b (runs s n))
-  stays_step n ih p b (Over end) e ws h = run_over s p b m ws end e
-  stays_step n ih p b (Read o k) e [] h = run_out s p b m [] o k e refl
-  stays_step n ih p b (Read o k) e (w ∷ ws) h =
+      → (p : Parked) (b : List ℕ) (a : Result Next End) → next s p ≡ a → (ws : List ℕ) → Stays s m ws (step a ws p b (runs s n))
+  stays_step n ih p b (Err end) e ws h = run_over s p b m ws end e
+  stays_step n ih p b (Ok (Read o k)) e [] h = run_out s p b m [] o k e refl
+  stays_step n ih p b (Ok (Read o k)) e (w ∷ ws) h =
       let q : Outcome = runs s n (after p w) (kept k p.count w b) ws in
       ap (λ (j : ℕ). runs s m q.parked q.buffer (drop j (w ∷ ws))) (one-add q.taken) ∙ ih (after p w) (kept k p.count w b) ws h
-  stays_step n ih p b (Write o w) e ws h =
+  stays_step n ih p b (Ok (Write o w)) e ws h =
       let q : Outcome = runs s n (after p 0) b ws in
       ap (λ (j : ℕ). runs s m q.parked q.buffer (drop j ws)) (zero-add q.taken) ∙ ih (after p 0) b ws h
 
@@ -89,7 +90,7 @@ ended_at (Ended end) x e = has_ended end refl
 -- it gives the same answer over any words, with any room
 same_answer : (s : List ℕ) (p : Parked) (b us ws : List ℕ) (k : ℕ) (a : Said) → HasEnded p.phase → runs s 0 p b us ≡ stopped a p b → runs s k p b ws ≡ stopped a p b
 same_answer s p b us ws k a (has_ended end h) e =
-    let o : next s p ≡ Over end = wants_at_lem p _ (Ended end) h in
+    let o : next s p ≡ Err end = wants_at_lem p _ (Ended end) h in
     run_over s p b k ws end o ∙ sym (run_over s p b 0 us end o) ∙ e
 
 module _ (s : List ℕ) (n : ℕ) (p : Parked) (b ws : List ℕ) where

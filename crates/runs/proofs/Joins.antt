@@ -6,9 +6,11 @@ use native.Mathlib.Nat.{zero-add, suc-add}
 use native.Mathlib.Numerals.{one-add}
 use native.Mathlib.Omega.{arith}
 use lib.ListN.{length, drop}
+use Rattle.std.specs.Prelude.{Result, Ok, Err}
 use Rattle.answers.specs.Answers.{Said, says}
+use Rattle.phases.specs.declared.End.{End}
 use Rattle.parked.specs.declared.Next.{Next}
-use Rattle.parked.specs.declared.Next.TheVariants.{Read, Write, Over}
+use Rattle.parked.specs.declared.Next.TheVariants.{Read, Write}
 use Rattle.parked.specs.declared.Parked.{Parked}
 use Rattle.parked.specs.After.{answer, after}
 use Rattle.runs.specs.Run.{Outcome, stopped, joined, kept, step, full, next, runs}
@@ -22,27 +24,27 @@ Joins s k p b ws us q = runs s (accesses q.numbers + k) p b (ws ++ us) ≡ joine
 stops : (s : List ℕ) (k : ℕ) (p : Parked) (b ws us : List ℕ) (a : Said) → Joins s k p b ws us (stopped a p b)
 stops s k p b ws us a = ap (λ (n : ℕ). runs s n p b (ws ++ us)) (zero-add k) ∙ joined-none (runs s k p b (ws ++ us))
 
-fully : (s : List ℕ) (k : ℕ) (p : Parked) (b : List ℕ) (m : Next) (ws us : List ℕ) → Joins s k p b ws us (full m ws p b)
-fully s k p b (Over a) ws us = stops s k p b ws us (answer a p)
-fully s k p b (Read o e) [] us = stops s k p b [] us (says 9 [])
-fully s k p b (Read o e) (w ∷ ws) us = stops s k p b (w ∷ ws) us (says 10 [])
-fully s k p b (Write o w) ws us = stops s k p b ws us (says 10 [])
+fully : (s : List ℕ) (k : ℕ) (p : Parked) (b : List ℕ) (m : Result Next End) (ws us : List ℕ) → Joins s k p b ws us (full m ws p b)
+fully s k p b (Err a) ws us = stops s k p b ws us (answer a p)
+fully s k p b (Ok (Read o e)) [] us = stops s k p b [] us (says 9 [])
+fully s k p b (Ok (Read o e)) (w ∷ ws) us = stops s k p b (w ∷ ws) us (says 10 [])
+fully s k p b (Ok (Write o w)) ws us = stops s k p b ws us (says 10 [])
 
 some : (w : ℕ) (ws : List ℕ) → length (w ∷ ws) ≡ 0 → ⊥
 some w ws e = omega arith
 
 steps : (s : List ℕ) (n k : ℕ) (us : List ℕ) → ((p : Parked) (b ws : List ℕ) → Joins s k p b ws us (runs s n p b ws))
-    → (p : Parked) (b : List ℕ) (m : Next) → next s p ≡ m → (ws : List ℕ) → Joins s k p b ws us (step m ws p b (runs s n))
-steps s n k us ih p b (Over a) e ws = stops s k p b ws us (answer a p)
-steps s n k us ih p b (Read o keep) e [] = stops s k p b [] us (says 9 [])
-steps s n k us ih p b (Read o keep) e (w ∷ ws) =
+    → (p : Parked) (b : List ℕ) (m : Result Next End) → next s p ≡ m → (ws : List ℕ) → Joins s k p b ws us (step m ws p b (runs s n))
+steps s n k us ih p b (Err a) e ws = stops s k p b ws us (answer a p)
+steps s n k us ih p b (Ok (Read o keep)) e [] = stops s k p b [] us (says 9 [])
+steps s n k us ih p b (Ok (Read o keep)) e (w ∷ ws) =
     let q : Outcome = runs s n (after p w) (kept keep p.count w b) ws in
     ap (λ (j : ℕ). runs s j p b (w ∷ (ws ++ us))) (suc-add (accesses q.numbers) k)
     ∙ run_read s p b (accesses q.numbers + k) (w ∷ (ws ++ us)) o keep e (some w (ws ++ us))
     ∙ ap (joined 1 (o ∷ w ∷ [])) (ih (after p w) (kept keep p.count w b) ws)
     ∙ joined_joined 1 q.taken (o ∷ w ∷ []) q.numbers (runs s k q.parked q.buffer (drop q.taken ws ++ us))
     ∙ ap (λ (x : List ℕ). joined (1 + q.taken) (o ∷ w ∷ q.numbers) (runs s k q.parked q.buffer (x ++ us))) (sym (ap (λ (j : ℕ). drop j (w ∷ ws)) (one-add q.taken)))
-steps s n k us ih p b (Write o w) e ws =
+steps s n k us ih p b (Ok (Write o w)) e ws =
     let q : Outcome = runs s n (after p 0) b ws in
     ap (λ (j : ℕ). runs s j p b (ws ++ us)) (suc-add (accesses q.numbers) k)
     ∙ run_write s p b (accesses q.numbers + k) (ws ++ us) o w e

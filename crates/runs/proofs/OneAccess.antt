@@ -6,9 +6,10 @@ use Prim.Native.Nat.{ℕ, zero, suc, ◌+◌}
 use native.Mathlib.Nat.{zero-add, add_assoc}
 use native.Mathlib.Omega.{arith}
 use lib.ListN.{length, get_or, drop}
+use Rattle.std.specs.Prelude.{Ok, Err}
 use Rattle.answers.specs.Answers.{says}
 use Rattle.phases.specs.declared.End.{End}
-use Rattle.parked.specs.declared.Next.TheVariants.{Read, Write, Over as OverA}
+use Rattle.parked.specs.declared.Next.TheVariants.{Read, Write}
 use Rattle.parked.specs.declared.Parked.{Parked}
 use Rattle.parked.specs.After.{answer, after}
 use Rattle.parked.specs.Refusals.{wrong}
@@ -21,33 +22,33 @@ pub joined_joined : (t u : ℕ) (l m : List ℕ) (q : Outcome) → joined t l (j
 joined_joined t u l m q = rw (add_assoc, append_assoc)
 
 module _ (s : List ℕ) (p : Parked) (b : List ℕ) where
-  pub run_over : (n : ℕ) (ws : List ℕ) (e : End) → next s p ≡ OverA e → runs s n p b ws ≡ stopped (answer e p) p b
+  pub run_over : (n : ℕ) (ws : List ℕ) (e : End) → next s p ≡ Err e → runs s n p b ws ≡ stopped (answer e p) p b
   unfolding runs
   run_over zero ws e h = rw h
   run_over (suc n) ws e h = rw h
 
-  pub run_out : (n : ℕ) (ws : List ℕ) (o : ℕ) (k : Bool) → next s p ≡ Read o k → length ws ≡ 0 → runs s n p b ws ≡ stopped (says 9 []) p b
+  pub run_out : (n : ℕ) (ws : List ℕ) (o : ℕ) (k : Bool) → next s p ≡ Ok (Read o k) → length ws ≡ 0 → runs s n p b ws ≡ stopped (says 9 []) p b
   unfolding runs
   run_out zero [] o k e h = rw e
   run_out (suc n) [] o k e h = rw e
   run_out n (w ∷ ws) o k e h = absurd (omega arith)
 
-  pub full_read : (ws : List ℕ) (o : ℕ) (k : Bool) → next s p ≡ Read o k → (length ws ≡ 0 → ⊥) → runs s 0 p b ws ≡ stopped (says 10 []) p b
+  pub full_read : (ws : List ℕ) (o : ℕ) (k : Bool) → next s p ≡ Ok (Read o k) → (length ws ≡ 0 → ⊥) → runs s 0 p b ws ≡ stopped (says 10 []) p b
   unfolding runs
   full_read [] o k e h = absurd (h refl)
   full_read (w ∷ ws) o k e h = rw e
 
-  pub full_write : (ws : List ℕ) (o w : ℕ) → next s p ≡ Write o w → runs s 0 p b ws ≡ stopped (says 10 []) p b
+  pub full_write : (ws : List ℕ) (o w : ℕ) → next s p ≡ Ok (Write o w) → runs s 0 p b ws ≡ stopped (says 10 []) p b
   unfolding runs
   full_write ws o w e = rw e
 
-  pub run_read : (n : ℕ) (ws : List ℕ) (o : ℕ) (k : Bool) → next s p ≡ Read o k → (length ws ≡ 0 → ⊥)
+  pub run_read : (n : ℕ) (ws : List ℕ) (o : ℕ) (k : Bool) → next s p ≡ Ok (Read o k) → (length ws ≡ 0 → ⊥)
       → runs s (suc n) p b ws ≡ joined 1 (o ∷ get_or ws 0 0 ∷ []) (runs s n (after p (get_or ws 0 0)) (kept k p.count (get_or ws 0 0) b) (drop 1 ws))
   unfolding runs
   run_read n [] o k e h = absurd (h refl)
   run_read n (w ∷ ws) o k e h = rw e
 
-  pub run_write : (n : ℕ) (ws : List ℕ) (o w : ℕ) → next s p ≡ Write o w
+  pub run_write : (n : ℕ) (ws : List ℕ) (o w : ℕ) → next s p ≡ Ok (Write o w)
       → runs s (suc n) p b ws ≡ joined 0 (o ∷ w ∷ []) (runs s n (after p 0) b ws)
   unfolding runs
   run_write n ws o w e = rw e

@@ -5,6 +5,7 @@ use mathlib.Core.Path.{◌≡◌, refl, ◌∙◌}
 use mathlib.Core.Bool.{Bool, true, false, cond}
 use mathlib.Core.List.{List}
 use lib.ListN.{get_or}
+use Rattle.std.specs.Prelude.{Ok, Some}
 use Rattle.wanted.specs.declared.Wanted.{Wanted}
 use Rattle.wanted.specs.declared.Wanted.TheVariants.{Txis, Rxne}
 use Rattle.wanted.specs.declared.Found.TheVariants.{Wanted as Met}
@@ -22,13 +23,13 @@ use Rattle.parked.proofs.Phases.{wants_at_lem}
 use Rattle.runs.specs.Run.{next}
 
 module _ (s : List ℕ) (p : Parked) where
-  pub next_wait : p.phase ≡ Wait → next s p ≡ Read (offset ISR) false
+  pub next_wait : p.phase ≡ Wait → next s p ≡ Ok (Read (offset ISR) false)
   next_wait e = wants_at_lem p _ Wait e
 
-  pub next_in : p.phase ≡ Transfer → incoming p.kind ≡ true → next s p ≡ Read (offset RXDR) (more p)
+  pub next_in : p.phase ≡ Transfer → incoming p.kind ≡ true → next s p ≡ Ok (Read (offset RXDR) (more p))
   next_in e i = wants_at_lem p _ Transfer e ∙ rw i
 
-  pub next_out : p.phase ≡ Transfer → incoming p.kind ≡ false → next s p ≡ Write (offset TXDR + 0x100) (sent (get_or s p.count 0x21))
+  pub next_out : p.phase ≡ Transfer → incoming p.kind ≡ false → next s p ≡ Ok (Write (offset TXDR + 0x100) (sent (get_or s p.count 0x21)))
   next_out e i = wants_at_lem p _ Transfer e ∙ rw i
 
 module _ (p : Parked) where
@@ -60,13 +61,13 @@ same : (t : Bool) (f : Phase) → cond t f f ≡ f
 same true f = refl
 same false f = refl
 
-found_more : (p : Parked) → more p ≡ true → after_found Met p ≡ Transfer
+found_more : (p : Parked) → more p ≡ true → after_found (Some Met) p ≡ Transfer
 found_more p m = rw m (same (pads p.kind) Transfer)
 
-pub met : (w : ℕ) (f : Wanted) → w has wanted_name f ≡ true → found_in w f ≡ Met
+pub met : (w : ℕ) (f : Wanted) → w has wanted_name f ≡ true → found_in w f ≡ Some Met
 unfolding found_in
 met w f e = rw e
 
 -- the wanted flag is found while a byte is left
-pub found_byte : (p : Parked) (w : ℕ) (f : Wanted) → wanted p ≡ f → w has wanted_name f ≡ true → more p ≡ true → after_found (found_in w (wanted p)) p ≡ Transfer
-found_byte p w f e h m = rw (e, met w f h) (found_more p m)
+pub found_byte : (p : Parked) (w : ℕ) (f : Wanted) → wanted p ≡ f → found_in w f ≡ Some Met → more p ≡ true → after_found (found_in w (wanted p)) p ≡ Transfer
+found_byte p w f e h m = rw (e, h) (found_more p m)

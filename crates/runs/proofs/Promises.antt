@@ -19,10 +19,10 @@ use Rattle.runs.specs.BufferLaw.{heard, place, BufferLaw}
 
 -- the answer, the parked call, the words taken and the places logged are the outcome's; so are the log from its first place on, and the buffer
 promised : (q : Outcome) (log : List ℕ) (r : Ran) (log' b' : List ℕ) → Whole q log r log' b' →
-    (said r.answer ≡ q.answer)
+    (said r.report.answer ≡ q.answer)
     × (r.parked ≡ q.parked)
-    × (r.taken ≡ q.taken)
-    × (r.logged ≡ length q.numbers)
+    × (r.report.taken ≡ q.taken)
+    × (r.report.logged ≡ length q.numbers)
     × (log' ≡ over q.numbers log)
     × (b' ≡ q.buffer)
 promised q log r log' b' w = (w.answer, w.parked, w.taken, w.logged, w.entries, w.buffer)

@@ -7,13 +7,15 @@ use native.Mathlib.Omega.{arith}
 use borrow.Author.Tests.{eq-eqb, le-ltb, eqb-true, ltb-false}
 use lib.Dec.{eqb, ltb}
 use lib.ListN.{length, length-set}
+use Rattle.std.specs.Prelude.{Result, Ok, Err}
 use Rattle.fields.specs.Words.{received}
 use Rattle.phases.specs.declared.Kind.{Kind}
 use Rattle.phases.specs.declared.Kind.TheVariants.{Write, Read, WriteRead, ReadBack, SlaveWrite, SlaveRead, SlaveWaitAddressed}
 use Rattle.phases.specs.declared.Role.{Role}
 use Rattle.phases.specs.declared.Role.TheVariants.{Byte, Second, Other, Nothing}
+use Rattle.phases.specs.declared.End.{End}
 use Rattle.parked.specs.declared.Next.{Next}
-use Rattle.parked.specs.declared.Next.TheVariants.{Read as ReadA, Write as WriteA, Over}
+use Rattle.parked.specs.declared.Next.TheVariants.{Read as ReadA, Write as WriteA}
 use Rattle.parked.specs.declared.Parked.{Parked}
 use Rattle.phases.specs.Kinds.{restarts}
 use Rattle.parked.specs.Wants.{span}
@@ -78,21 +80,21 @@ pub record Kept (n : ℕ) (b : List ℕ) (q : Outcome) : Type 0 where
   pub long : length q.buffer ≡ length b
 
 module _ (s : List ℕ) where
-  kept_full : (p : Parked) (b : List ℕ) (a : Next) (ws : List ℕ) → Sound (length s) (length b) p → Kept (length s) b (full a ws p b)
-  kept_full p b (Over a) ws h = record { sound = h; long = refl }
-  kept_full p b (ReadA o k) [] h = record { sound = h; long = refl }
-  kept_full p b (ReadA o k) (w ∷ ws) h = record { sound = h; long = refl }
-  kept_full p b (WriteA o w) ws h = record { sound = h; long = refl }
+  kept_full : (p : Parked) (b : List ℕ) (a : Result Next End) (ws : List ℕ) → Sound (length s) (length b) p → Kept (length s) b (full a ws p b)
+  kept_full p b (Err a) ws h = record { sound = h; long = refl }
+  kept_full p b (Ok (ReadA o k)) [] h = record { sound = h; long = refl }
+  kept_full p b (Ok (ReadA o k)) (w ∷ ws) h = record { sound = h; long = refl }
+  kept_full p b (Ok (WriteA o w)) ws h = record { sound = h; long = refl }
 
   kept_step : (n : ℕ) → ((p : Parked) (b ws : List ℕ) → Sound (length s) (length b) p → Kept (length s) b (runs s n p b ws))
-      → (p : Parked) (b : List ℕ) (a : Next) (ws : List ℕ) → Sound (length s) (length b) p → Kept (length s) b (step a ws p b (runs s n))
-  kept_step n ih p b (Over a) ws h = record { sound = h; long = refl }
-  kept_step n ih p b (ReadA o k) [] h = record { sound = h; long = refl }
-  kept_step n ih p b (ReadA o k) (w ∷ ws) h =
+      → (p : Parked) (b : List ℕ) (a : Result Next End) (ws : List ℕ) → Sound (length s) (length b) p → Kept (length s) b (step a ws p b (runs s n))
+  kept_step n ih p b (Err a) ws h = record { sound = h; long = refl }
+  kept_step n ih p b (Ok (ReadA o k)) [] h = record { sound = h; long = refl }
+  kept_step n ih p b (Ok (ReadA o k)) (w ∷ ws) h =
       let e : length (kept k p.count w b) ≡ length b = length_kept k p.count w b in
       let r = ih (after p w) (kept k p.count w b) ws (subst (λ (m : ℕ). Sound (length s) m (after p w)) (sym e) (sound_next p w h)) in
       record { sound = subst (λ (m : ℕ). Sound (length s) m (runs s n (after p w) (kept k p.count w b) ws).parked) e r.sound; long = r.long ∙ e }
-  kept_step n ih p b (WriteA o w) ws h =
+  kept_step n ih p b (Ok (WriteA o w)) ws h =
       let r = ih (after p 0) b ws (sound_next p 0 h) in record { sound = r.sound; long = r.long }
 
   pub kept_run : (n : ℕ) (p : Parked) (b ws : List ℕ) → Sound (length s) (length b) p → Kept (length s) b (runs s n p b ws)

@@ -1,12 +1,13 @@
 -- The buffer law. After a run the receive buffer is the one before it, with the bytes that came in stored one after the other from the
 -- place that the count says, and nothing else changed; each of them has its place in the buffer. The count then says the next place: a short
 -- frame's count says which bytes are new.
-use Rattle.std.specs.Prelude.{ℕ, zero, suc, ◌+◌, ◌≤◌, ◌≡◌, false, cond, List, [], ◌∷◌, length}
+use Rattle.std.specs.Prelude.{ℕ, zero, suc, ◌+◌, ◌≤◌, ◌≡◌, false, cond, List, [], ◌∷◌, length, Result, Ok, Err}
 use Rattle.std.proofs.lemmas.List.Edits.{sets}
 use Rattle.answers.specs.Answers.{says}
 use Rattle.fields.specs.Words.{received}
+use Rattle.phases.specs.declared.End.{End}
 use Rattle.parked.specs.declared.Next.{Next}
-use Rattle.parked.specs.declared.Next.TheVariants.{Read, Write, Over}
+use Rattle.parked.specs.declared.Next.TheVariants.{Read, Write}
 use Rattle.parked.specs.declared.Parked.{Parked}
 use Rattle.phases.specs.Kinds.{incoming}
 use Rattle.parked.specs.After.{after}
@@ -14,11 +15,11 @@ use Rattle.parked.specs.Refusals.{wrong}
 use Rattle.runs.specs.Run.{next, outcome}
 
 -- the bytes that come in, in order: the low 8 bits of each RXDR read that is kept
-abbrev pub hearing : Next → List ℕ → Parked → (Parked → List ℕ → List ℕ) → List ℕ
-hearing (Over end) ws p k = []
-hearing (Read number keep) [] p k = []
-hearing (Read number keep) (w ∷ ws) p k = cond keep (received w ∷ k (after p w) ws) (k (after p w) ws)
-hearing (Write number word) ws p k = k (after p 0) ws
+abbrev pub hearing : Result Next End → List ℕ → Parked → (Parked → List ℕ → List ℕ) → List ℕ
+hearing (Err end) ws p k = []
+hearing (Ok (Read number keep)) [] p k = []
+hearing (Ok (Read number keep)) (w ∷ ws) p k = cond keep (received w ∷ k (after p w) ws) (k (after p w) ws)
+hearing (Ok (Write number word)) ws p k = k (after p 0) ws
 
 unfoldable pub heard_in : List ℕ → ℕ → Parked → List ℕ → List ℕ
 heard_in s zero p ws = []

@@ -1,11 +1,12 @@
 -- A run of a call over a list of words, with room for so many accesses in the log.
-use Rattle.std.specs.Prelude.{ℕ, zero, suc, ◌+◌, ◌/◌, ◌≡◌, Bool, cond, List, [], ◌∷◌, ◌++◌, length, get_or, drop, set}
+use Rattle.std.specs.Prelude.{ℕ, zero, suc, ◌+◌, ◌/◌, ◌≡◌, Bool, cond, List, [], ◌∷◌, ◌++◌, length, get_or, drop, set, Result, Ok, Err}
 use Rattle.answers.specs.Answers.{Said, says, said}
 use Rattle.access.specs.Access.{over}
 use Rattle.fields.specs.Words.{received}
 use Rattle.phases.specs.declared.Kind.{Kind}
+use Rattle.phases.specs.declared.End.{End}
 use Rattle.parked.specs.declared.Next.{Next}
-use Rattle.parked.specs.declared.Next.TheVariants.{Read, Write, Over}
+use Rattle.parked.specs.declared.Next.TheVariants.{Read, Write}
 use Rattle.parked.specs.declared.Parked.{Parked}
 use Rattle.runs.specs.declared.Ran.{Ran}
 use Rattle.parked.specs.Wants.{wants}
@@ -37,22 +38,22 @@ abbrev pub kept : Bool → ℕ → ℕ → List ℕ → List ℕ
 kept keep count word b = cond keep (set b count (received word)) b
 
 -- the next access; after the last byte of the slice 0x21 is sent
-abbrev pub next : List ℕ → Parked → Next
+abbrev pub next : List ℕ → Parked → Result Next End
 next s p = wants p (get_or s p.count 0x21)
 
 -- one access of a run that goes on by `k`; 9 where its read has no word
-abbrev pub step : Next → List ℕ → Parked → List ℕ → (Parked → List ℕ → List ℕ → Outcome) → Outcome
-step (Over end) ws p b k = stopped (answer end p) p b
-step (Read number keep) [] p b k = stopped (says 9 []) p b
-step (Read number keep) (w ∷ ws) p b k = joined 1 (number ∷ w ∷ []) (k (after p w) (kept keep p.count w b) ws)
-step (Write number word) ws p b k = joined 0 (number ∷ word ∷ []) (k (after p 0) b ws)
+abbrev pub step : Result Next End → List ℕ → Parked → List ℕ → (Parked → List ℕ → List ℕ → Outcome) → Outcome
+step (Err end) ws p b k = stopped (answer end p) p b
+step (Ok (Read number keep)) [] p b k = stopped (says 9 []) p b
+step (Ok (Read number keep)) (w ∷ ws) p b k = joined 1 (number ∷ w ∷ []) (k (after p w) (kept keep p.count w b) ws)
+step (Ok (Write number word)) ws p b k = joined 0 (number ∷ word ∷ []) (k (after p 0) b ws)
 
 -- no room for an access: 9 goes before 10, and a call that is over makes none
-abbrev pub full : Next → List ℕ → Parked → List ℕ → Outcome
-full (Over end) ws p b = stopped (answer end p) p b
-full (Read number keep) [] p b = stopped (says 9 []) p b
-full (Read number keep) (w ∷ ws) p b = stopped (says 10 []) p b
-full (Write number word) ws p b = stopped (says 10 []) p b
+abbrev pub full : Result Next End → List ℕ → Parked → List ℕ → Outcome
+full (Err end) ws p b = stopped (answer end p) p b
+full (Ok (Read number keep)) [] p b = stopped (says 9 []) p b
+full (Ok (Read number keep)) (w ∷ ws) p b = stopped (says 10 []) p b
+full (Ok (Write number word)) ws p b = stopped (says 10 []) p b
 
 -- the bytes to send, the room, the call, the buffer, the words
 unfoldable pub runs : List ℕ → ℕ → Parked → List ℕ → List ℕ → Outcome
@@ -80,9 +81,9 @@ room log = length log / 2
 
 -- what a call returned, the log and the buffer after it are an outcome
 pub record Whole (q : Outcome) (log : List ℕ) (r : Ran) (log' b' : List ℕ) : Type 0 where
-  pub answer : said r.answer ≡ q.answer
+  pub answer : said r.report.answer ≡ q.answer
   pub parked : r.parked ≡ q.parked
-  pub taken : r.taken ≡ q.taken
-  pub logged : r.logged ≡ length q.numbers
+  pub taken : r.report.taken ≡ q.taken
+  pub logged : r.report.logged ≡ length q.numbers
   pub entries : log' ≡ over q.numbers log
   pub buffer : b' ≡ q.buffer

@@ -1,14 +1,12 @@
 // A run of a blocking call: what it means, and the cut law and the buffer law over it, which `blocking` hands on as promises.
 #![tactic(auto)]
 
-use answers::Answer;
+use access::Report;
 use parked::Parked;
 
-// What a run returns: its answer, the parked call, how many words it took, and how many places of the log it filled.
-#[derive(Clone, Copy)]
+// What a run returns: the parked call, and a report of the run.
+#[derive(Clone, Copy, Debug, PartialEq, Eq)]
 pub struct Ran {
-    pub answer: Answer,
     pub parked: Parked,
-    pub taken: usize,
-    pub logged: usize,
+    pub report: Report,
 }

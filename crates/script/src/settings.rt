@@ -1,8 +1,8 @@
 // The configuration that a line gives.
 use crate::calls::{BAD_LINE, Call};
 use crate::slots::*;
-use answers::Answer;
-use config::{Config, Filtered};
+use answers::{Answer, Refusal};
+use config::Config;
 use flat::configured::config_of;
 
 // The configuration but for a filter that goes through the setter. At most one of the three first addresses is given.
@@ -25,16 +25,13 @@ fn plain(slots: &Slots) -> Config {
     ])
 }
 
-// The configuration, with what its filter's setter answers.
-fn filtered(slots: &Slots) -> Filtered {
+// The configuration, where its filter's setter takes the filter.
+fn filtered(slots: &Slots) -> Result<Config, Refusal> {
     let config = plain(slots);
     if given(slots, FILTER) == 1 {
         return config.enable_digital_filter((word(slots, FILTER) % 0x100) as u8);
     }
-    Filtered {
-        answer: Answer::Done,
-        config,
-    }
+    Ok(config)
 }
 
 // The number of that answer: 0, or that of a refusal. A line that is no call may have any filter.
@@ -42,12 +39,12 @@ pub fn refusal(call: Call, slots: &Slots) -> u64 {
     if call == BAD_LINE {
         return 0;
     }
-    let filtered = filtered(slots);
-    let answer = filtered.answer;
-    answer.number() as u64
+    match filtered(slots) {
+        Ok(_) => 0,
+        Err(refusal) => Answer::from(refusal).number() as u64,
+    }
 }
 
 pub fn configuration(slots: &Slots) -> Config {
-    let filtered = filtered(slots);
-    filtered.config
+    filtered(slots).unwrap_or(plain(slots))
 }

@@ -7,10 +7,10 @@ use native.Mathlib.Nat.{add-zero}
 use native.Mathlib.Omega.{arith}
 use lib.ListN.{length, get_or, take, drop, length-drop}
 use lib.Seq.{length-take-le, take-append-add, drop-append-add, drop-drop, get_or-drop, sets, sets-eq, length-sets}
+use Rattle.std.specs.Prelude.{Ok}
 use Rattle.parked.specs.declared.Next.TheVariants.{Read, Write}
 use Rattle.parked.specs.declared.Parked.{Parked}
 use Rattle.parked.specs.After.{after}
-use Rattle.stretches.specs.declared.Turn.TheVariants.{Again}
 use Rattle.stretches.specs.declared.Progress.{Progress}
 use Rattle.runs.specs.Run.{joined, kept, next, runs}
 use Rattle.stretches.specs.Stretches.{Carried}
@@ -19,7 +19,7 @@ use Rattle.runs.proofs.Sound.{length_kept}
 
 -- so many words taken and places logged, at a call
 abbrev pub on : Parked → ℕ → ℕ → Progress
-on p t g = record { turn = Again; parked = p; taken = t; logged = g }
+on p t g = record { parked = p; taken = t; logged = g }
 
 module _ (log : List ℕ) (g o w : ℕ) (h : g + 2 ≤ length log) where
   split : sets log g (o ∷ w ∷ []) ≡ take g log ++ (o ∷ w ∷ drop (g + 2) log)
@@ -72,12 +72,12 @@ module _ (s ws log b : List ℕ) (p : Parked) (t g g' t' : ℕ) (hg : g + 2 ≤ 
   some : t < length ws → length (drop t ws) ≡ 0 → ⊥
   some h e = omega (arith, length-drop t ws)
 
-  pub reads : (o : ℕ) (k : Bool) → next s p ≡ Read o k → t < length ws → t' ≡ t + 1
+  pub reads : (o : ℕ) (k : Bool) → next s p ≡ Ok (Read o k) → t < length ws → t' ≡ t + 1
       → Carried s ws log b (on p t g) (sets log g (o ∷ get_or ws t 0 ∷ [])) (kept k p.count (get_or ws t 0) b) (on (after p (get_or ws t 0)) t' g')
   reads o k e h et =
       access 1 o (get_or ws t 0) (after p (get_or ws t 0)) (kept k p.count (get_or ws t 0) b) et (omega arith) (length_kept k p.count (get_or ws t 0) b)
       (λ n. subst (λ (w : ℕ). runs s (suc n) p b (drop t ws) ≡ joined 1 (o ∷ w ∷ []) (runs s n (after p w) (kept k p.count w b) (drop 1 (drop t ws)))) (get_or-drop t ws 0 0 ∙ ap (λ (i : ℕ). get_or ws i 0) (add-zero t))
       (run_read s p b n (drop t ws) o k e (some h)))
 
-  pub writes : (o w : ℕ) → next s p ≡ Write o w → t ≤ length ws → t' ≡ t → Carried s ws log b (on p t g) (sets log g (o ∷ w ∷ [])) b (on (after p 0) t' g')
+  pub writes : (o w : ℕ) → next s p ≡ Ok (Write o w) → t ≤ length ws → t' ≡ t → Carried s ws log b (on p t g) (sets log g (o ∷ w ∷ [])) b (on (after p 0) t' g')
   writes o w e h et = access 0 o w (after p 0) b (et ∙ sym (add-zero t)) (omega arith) refl (λ n. run_write s p b n (drop t ws) o w e)

@@ -4,15 +4,19 @@ use Prim.Native.Nat.{ℕ, ◌+◌, ◌≤◌, ◌<◌}
 use mathlib.Core.Path.{◌≡◌}
 use mathlib.Core.List.{List}
 use lib.ListN.{length}
-use Rattle.stretches.specs.declared.Moved.{Moved}
-use Rattle.stretches.specs.Stretches.{Sends, Receives}
+use Rattle.stretches.specs.declared.Progress.{Progress}
+use Rattle.stretches.specs.Stretches.{counted, Sends, Receives}
 
 -- no word is left, or no room for its access
-abbrev Short : List ℕ → List ℕ → Moved → Type 0
-Short ws log m = m.taken < length ws → m.logged + 2 ≤ length log → ⊥
+abbrev Short : List ℕ → List ℕ → Progress → Type 0
+Short ws log p = p.taken < length ws → p.logged + 2 ≤ length log → ⊥
 
-sends_nothing : (s ws log : List ℕ) (m : Moved) (log' : List ℕ) (r : Moved) → Sends s ws log m log' r → Short ws log m → (r ≡ m) × (log' ≡ log)
-sends_nothing s ws log m log' r p = p.still
+-- and what it carries on is the call that it was given, with another count
+same_call : (s ws log b : List ℕ) (p : Progress) (log' b' : List ℕ) (r : Progress) → (Sends s ws log p log' r → r.parked ≡ counted p.parked r.parked.count) × (Receives ws log b p log' b' r → r.parked ≡ counted p.parked r.parked.count)
+same_call s ws log b p log' b' r = (λ h. h.call, λ h. h.call)
 
-receives_nothing : (ws log b : List ℕ) (m : Moved) (log' b' : List ℕ) (r : Moved) → Receives ws log b m log' b' r → Short ws log m → (r ≡ m) × (log' ≡ log) × (b' ≡ b)
-receives_nothing ws log b m log' b' r p = p.still
+sends_nothing : (s ws log : List ℕ) (p : Progress) (log' : List ℕ) (r : Progress) → Sends s ws log p log' r → Short ws log p → (r ≡ p) × (log' ≡ log)
+sends_nothing s ws log p log' r h = h.still
+
+receives_nothing : (ws log b : List ℕ) (p : Progress) (log' b' : List ℕ) (r : Progress) → Receives ws log b p log' b' r → Short ws log p → (r ≡ p) × (log' ≡ log) × (b' ≡ b)
+receives_nothing ws log b p log' b' r h = h.still

@@ -1,21 +1,45 @@
--- Entries stored one after the other: one more is a store at the next place. What is told of a store that fits, and of one that does not.
-use Prim.Native.Nat.{ℕ, zero, suc, ◌+◌, ◌<◌, ◌≤◌}
+-- Entries stored one after the other. What is told of a store that fits, and of one that does not.
+use Prim.Native.Nat.{ℕ, ◌+◌, ◌-◌, ◌≤◌, ◌<◌}
 use mathlib.Core.Path.{◌≡◌, sym, ap, subst, ◌∙◌}
 use mathlib.Core.Bool.{Bool, true, false, cond}
-use mathlib.Core.List.{List, [], ◌∷◌}
+use mathlib.Core.List.{List, ◌++◌, append-nil, append_assoc}
 use lib.Dec.{T, leb→le}
-use native.Mathlib.Nat.{not-suc-le-zero, le_of_suc-le-suc, add-zero}
 use native.Mathlib.Omega.{arith}
-use lib.ListN.{length, get_or, take, set}
-use lib.Seq.{sets}
+use lib.ListN.{length, take, drop, length-drop, take-append-drop}
+use lib.Seq.{sets, sets-eq, drop-drop, drop-length}
+use borrow.Author.Tests.{le-leb, lt-leb, leb-false}
+use borrow.Author.Rules.{part_to_end}
+use borrow.Rule.Slice.PartMut.{put_mid, Post-is}
+use Rattle.access.specs.Access.{over, Logged}
+use Rattle.access.proofs.Over.{over_front}
 use Rattle.stretches.specs.Polls.{Put}
 
-pub sets_suc : (xs log : List ℕ) (at i : ℕ) → i < length xs → sets log at (take (suc i) xs) ≡ set (sets log at (take i xs)) (at + i) (get_or xs i 0)
-sets_suc [] log at i h = absurd (not-suc-le-zero h)
-sets_suc (x ∷ xs) log at zero h = ap (λ (j : ℕ). set log j x) (sym (add-zero at))
-sets_suc (x ∷ xs) log at (suc i) h =
-    let e : suc at + i ≡ at + suc i = omega arith in
-    sets_suc xs (set log at x) (suc at) i (le_of_suc-le-suc h) ∙ ap (λ (j : ℕ). set (sets (set log at x) (suc at) (take i xs)) j (get_or xs i 0)) e
+-- what is put back of the last part of a log
+pub put_rest : (g : ℕ) (log ys : List ℕ) → g ≤ length log → put_mid g (length log - g) log ys ≡ take g log ++ ys
+put_rest g log ys h = ap (λ (z : List ℕ). take g log ++ (ys ++ z)) (Post-is g (length log) log h ∙ drop-length log) ∙ ap (λ (z : List ℕ). take g log ++ z) (append-nil ys)
+
+-- entries laid over the front of the last part of a log
+module _ (xs log ys : List ℕ) (at : ℕ) (h : at ≤ length log) where
+  laid : length xs ≤ length (drop at log) → take at log ++ over xs (drop at log) ≡ sets log at xs
+  laid k =
+      let fits : at + length xs ≤ length log = omega (arith, length-drop at log) in
+      ap (λ (z : List ℕ). take at log ++ z) (over_front xs (drop at log) k ∙ ap (λ (z : List ℕ). xs ++ z) (drop-drop (length xs) at log))
+      ∙ sym (append_assoc (take at log) xs (drop (at + length xs) log))
+      ∙ sym (sets-eq xs log at fits)
+
+  put_by : (t : Bool) → Logged xs (drop at log) t ys → Put xs log at t (take at log ++ ys)
+  put_by true p =
+      let k : length xs ≤ length (drop at log) = leb→le (length xs) (length (drop at log)) (subst T p.room tt) in
+      record { room = sym (le-leb (at + length xs) (length log) (omega (arith, length-drop at log))); log = ap (λ (z : List ℕ). take at log ++ z) p.log ∙ laid k }
+  put_by false p =
+      let k : length (drop at log) < length xs = leb-false (length xs) (length (drop at log)) (sym p.room) in
+      record { room = sym (lt-leb (at + length xs) (length log) (omega (arith, length-drop at log))); log = ap (λ (z : List ℕ). take at log ++ z) p.log ∙ take-append-drop at log }
+
+  -- the same, with the part as the borrow checker has it
+  pub put_part : {t : Bool} → Logged xs (take (length log - at) (drop at log)) t ys → Put xs log at t (put_mid at (length log - at) log ys)
+  put_part {t} p =
+      subst (λ (z : List ℕ). Put xs log at t z) (sym (put_rest at log ys h))
+      (put_by t (subst (λ (z : List ℕ). Logged xs z t ys) (part_to_end log at) p))
 
 module _ {xs log : List ℕ} {g : ℕ} {t : Bool} {log' : List ℕ} (p : Put xs log g t log') where
   pub put_fits : t ≡ true → g + length xs ≤ length log

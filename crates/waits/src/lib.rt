@@ -12,30 +12,27 @@ use wanted::Found;
 fn found(kind: Kind, more: bool) -> Phase
     ensures { result ≡ found kind more }
 {
-    if more {
-        return Phase::Transfer;
+    if more || kind.pads() {
+        Phase::Transfer
+    } else if kind.restarts() {
+        Phase::Restart
+    } else {
+        Phase::Wait
     }
-    if kind.restarts() {
-        return Phase::Restart;
-    }
-    if kind.pads() {
-        return Phase::Transfer;
-    }
-    Phase::Wait
 }
 
 // The phase that a flag leads to.
-pub fn after_found(flag: Found, kind: Kind, more: bool) -> Phase
+pub fn after_found(flag: Option<Found>, kind: Kind, more: bool) -> Phase
     ensures { result ≡ after_found flag kind more }
 {
     match flag {
-        Found::Wanted => found(kind, more),
-        Found::Berr => Phase::ClearBerr,
-        Found::Arlo => Phase::ClearArlo,
-        Found::Nackf => Phase::ClearNackf,
-        Found::Tcr => Phase::Stretched,
-        Found::Addr => Phase::Ended(End::Addr),
-        Found::Stopf => Phase::FlushTxis,
-        Found::Nothing => Phase::Wait,
+        Some(Found::Wanted) => found(kind, more),
+        Some(Found::Berr) => Phase::ClearBerr,
+        Some(Found::Arlo) => Phase::ClearArlo,
+        Some(Found::Nackf) => Phase::ClearNackf,
+        Some(Found::Tcr) => Phase::Stretched,
+        Some(Found::Addr) => Phase::Ended(End::Addr),
+        Some(Found::Stopf) => Phase::FlushTxis,
+        None => Phase::Wait,
     }
 }

@@ -8,15 +8,15 @@ ghost use Rattle.wanted.specs.Found.{wanted_name, found_in};
 use flags::Isr;
 
 // The flag that a `busy_wait` waits for.
-#[derive(Clone, Copy)]
+#[derive(Clone, Copy, Debug, PartialEq, Eq)]
 pub enum Wanted {
     Txis,
     Rxne,
     Tc,
 }
 
-// What a `busy_wait` finds in an ISR word.
-#[derive(Clone, Copy)]
+// A flag of an ISR word that a `busy_wait` acts on.
+#[derive(Clone, Copy, Debug, PartialEq, Eq)]
 pub enum Found {
     Wanted,
     Berr,
@@ -25,45 +25,42 @@ pub enum Found {
     Tcr,
     Addr,
     Stopf,
-    Nothing,
 }
 
 impl Wanted {
     fn is_set(self, isr: u32) -> bool
         ensures { result ≡ isr has wanted_name self }
     {
-        match self {
-            Wanted::Txis => Isr::TXIS.is_set(isr),
-            Wanted::Rxne => Isr::RXNE.is_set(isr),
-            Wanted::Tc => Isr::TC.is_set(isr),
-        }
+        let flag = match self {
+            Wanted::Txis => Isr::TXIS,
+            Wanted::Rxne => Isr::RXNE,
+            Wanted::Tc => Isr::TC,
+        };
+        flag.is_set(isr)
     }
 
     // What a wait finds: the wanted flag, else the first of the others, in the order of `busy_wait`.
-    pub fn found_in(self, isr: u32) -> Found
+    #[tactic(auto, unfolding(crate::specs::Found::found_in))]
+    pub fn found_in(self, isr: u32) -> Option<Found>
         ensures { result ≡ found_in isr self }
     {
+        // One line for each flag, in the order of the wait: a table of the flags and a search in it say no more.
         if self.is_set(isr) {
-            return Found::Wanted;
+            Some(Found::Wanted)
+        } else if Isr::BERR.is_set(isr) {
+            Some(Found::Berr)
+        } else if Isr::ARLO.is_set(isr) {
+            Some(Found::Arlo)
+        } else if Isr::NACKF.is_set(isr) {
+            Some(Found::Nackf)
+        } else if Isr::TCR.is_set(isr) {
+            Some(Found::Tcr)
+        } else if Isr::ADDR.is_set(isr) {
+            Some(Found::Addr)
+        } else if Isr::STOPF.is_set(isr) {
+            Some(Found::Stopf)
+        } else {
+            None
         }
-        if Isr::BERR.is_set(isr) {
-            return Found::Berr;
-        }
-        if Isr::ARLO.is_set(isr) {
-            return Found::Arlo;
-        }
-        if Isr::NACKF.is_set(isr) {
-            return Found::Nackf;
-        }
-        if Isr::TCR.is_set(isr) {
-            return Found::Tcr;
-        }
-        if Isr::ADDR.is_set(isr) {
-            return Found::Addr;
-        }
-        if Isr::STOPF.is_set(isr) {
-            return Found::Stopf;
-        }
-        Found::Nothing
     }
 }

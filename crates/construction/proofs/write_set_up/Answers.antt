@@ -3,19 +3,20 @@ use Prim.Native.Nat.{ℕ, ◌+◌, ◌-◌, ◌*◌}
 use mathlib.Core.Path.{◌≡◌, refl}
 use mathlib.Core.Bool.{Bool, true, false}
 use mathlib.Core.List.{List, [], ◌∷◌}
-use lib.ListN.{get_or, take, drop}
+use lib.ListN.{get_or, take}
 use Rattle.answers.specs.Answers.{says}
 use Rattle.access.specs.Access.{read, write, settle, settled}
 use Rattle.fields.specs.Layout.{CR1, TIMINGR}
 use Rattle.fields.specs.Words.{byte_control}
 use Rattle.construction.specs.SetUp.{own, first_written, own_addresses}
+use Rattle.std.proofs.Common.{rules}
 use Rattle.construction.proofs.write_set_up.Goals as goal
 
 joined : (off disabled timing on configured oar1 oar2 : ℕ) (words : List ℕ) (first second : Bool) (n places : ℕ)
-    → settle (says 0 []) (2 + own first second) (take (10 + 6 * own first second - 0) (drop 0
+    → settle (says 0 []) (2 + own first second) (take (10 + 6 * own first second)
     (0x00 ∷ off ∷ 0x100 ∷ disabled ∷ 0x110 ∷ timing ∷ 0x00 ∷ on ∷ 0x100 ∷ configured
-    ∷ (first_written first oar1 oar2).number ∷ (first_written first oar1 oar2).word ∷ 0x00 ∷ get_or words 2 0 ∷ 0x100 ∷ byte_control (get_or words 2 0) true
-    ∷ 0x10C ∷ oar2 ∷ 0x00 ∷ get_or words 3 0 ∷ 0x100 ∷ byte_control (get_or words 3 0) true ∷ []))) n places
+    ∷ (first_written first oar1 oar2).0 ∷ (first_written first oar1 oar2).1 ∷ 0x00 ∷ get_or words 2 0 ∷ 0x100 ∷ byte_control (get_or words 2 0) true
+    ∷ 0x10C ∷ oar2 ∷ 0x00 ∷ get_or words 3 0 ∷ 0x100 ∷ byte_control (get_or words 3 0) true ∷ [])) n places
     ≡ settled (says 0 []) (read CR1 off ∷ write CR1 disabled ∷ write TIMINGR timing ∷ read CR1 on ∷ write CR1 configured ∷ own_addresses first second oar1 oar2 words) n places
 joined off disabled timing on configured oar1 oar2 words false false n places = refl
 joined off disabled timing on configured oar1 oar2 words false true n places = refl
@@ -23,5 +24,4 @@ joined off disabled timing on configured oar1 oar2 words true false n places = r
 joined off disabled timing on configured oar1 oar2 words true true n places = refl
 
 pub returns : goal.returns
-returns c = rw (← joined _ _ _ _ _ _ _ _ _ _ _ _, ← c.word_at-second.ensures, ← c.word_at-first.ensures, ← c.word_at-on.ensures, ← c.word_at-off.ensures, ← c.own_second-oar2.ensures, ← c.first_written-written.ensures, ← c.switch.ensures, ← c.configured.ensures, ← c.switch-2.ensures, ← c.switch-3.ensures, ← c.own_addresses-own.ensures.0)
-    c.settle.ensures
+returns c = record { report = rw (← joined _ _ _ _ _ _ _ _ _ _ _ _, ← c.word_at-second.ensures, ← c.word_at-first.ensures, ← c.word_at-on.ensures, ← c.word_at-off.ensures, ← c.own_second-oar2.ensures, ← c.first_written-own_register.ensures, ← c.switch.ensures, ← c.configured.ensures, ← c.switch-2.ensures, ← c.switch-3.ensures, ← c.own_addresses-own.ensures.number) c.try_settle.ensures.report; logged = search rules }

@@ -1,6 +1,5 @@
 -- `blocking::run::begin` meets its contract.
-use mathlib.Core.Path.{sym, ◌∙◌}
-use mathlib.Core.Path.{refl}
+use mathlib.Core.Path.{refl, sym, ◌∙◌}
 use lib.ListN.{length}
 use Prim.Native.Nat.{◌/◌}
 use Rattle.blocking.proofs.Wholes.{call_good, call_bad}
@@ -11,13 +10,15 @@ use Rattle.blocking.proofs.run.begin.Goals as goal
 
 pub returns-then-lengths : goal.returns-then-lengths
 returns-then-lengths c = let good = sym c.lengths.ensures ∙ c.if-lengths.true in
+    let n = length c.args.send.now in
+    let m = length c.args.receive.now in
     rw (
       call_good c.args.kind c.args.address c.args.send.now c.args.receive.now c.args.words.now (length c.args.log.now / 2) good,
-      outcome_right c.args.send.now (begun c.args.kind c.args.address (length c.args.send.now) (length c.args.receive.now)) c.args.receive.now c.args.words.now (length c.args.log.now / 2) (right_begun c.args.kind c.args.address (length c.args.send.now) (length c.args.receive.now) good),
+      outcome_right c.args.send.now (begun c.args.kind c.args.address n m) c.args.receive.now c.args.words.now (length c.args.log.now / 2) (right_begun c.args.kind c.args.address n m good),
       ← c.opening.ensures,
     )
     c.course.ensures
 
-pub returns : goal.returns
-returns c = rw (call_bad c.args.kind c.args.address c.args.send.now c.args.receive.now c.args.words.now (length c.args.log.now / 2) (sym c.lengths.ensures ∙ c.if-lengths.false), c.refused.ensures)
+pub returns-else-lengths : goal.returns-else-lengths
+returns-else-lengths c = rw (call_bad c.args.kind c.args.address c.args.send.now c.args.receive.now c.args.words.now (length c.args.log.now / 2) (sym c.lengths.ensures ∙ c.if-lengths.false), c.refused.ensures)
     (record { answer = refl; parked = refl; taken = refl; logged = refl; entries = refl; buffer = refl })

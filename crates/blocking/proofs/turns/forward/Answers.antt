@@ -1,14 +1,17 @@
 -- `blocking::turns::forward` meets its contract: what the part does is one access of the whole run.
-use native.Mathlib.Nat.{lt_of_le_of_lt}
-use Rattle.blocking.proofs.Bounds.{part_fits}
-use Rattle.blocking.proofs.OneTurn.{forward_part}
+use Rattle.std.proofs.lemmas.Result.{err_from_is_err_and}
+use Rattle.blocking.proofs.OneTurn.{forward_part, still_part, over_part}
 use Rattle.blocking.proofs.turns.forward.Goals as goal
 
-pub overflow_add-result : goal.overflow_add-result
-overflow_add-result c = record { fits = lt_of_le_of_lt (part_fits c.advance-step.result.taken c.args.p.taken c.args.words.now c.requires.0 c.advance-step.ensures.words) c.well_formed.1.1.1.0.0 }
-
-pub overflow_add-result-2 : goal.overflow_add-result-2
-overflow_add-result-2 c = record { fits = lt_of_le_of_lt (part_fits c.advance-step.result.logged c.args.p.logged c.args.log.now c.requires.1 c.advance-step.ensures.room) c.well_formed.1.1.1.1.0.0 }
+pub returns-in_err-step : goal.returns-in_err-step
+returns-in_err-step c = let p = err_from_is_err_and c.from_residual.result c.from_residual.ensures.1 in
+    let q = rw c.in_err-step.was at c.advance.ensures in
+    rw (p.1, p.2) (
+      q.0,
+      still_part c.args.log.now c.advance.new.log c.args.p.logged c.requires.1 q.1,
+      over_part c.args.send.now c.args.words.now c.args.log.now c.args.receive.now c.args.p _ c.requires.0 c.requires.1 q.2,
+    )
 
 pub returns : goal.returns
-returns c = forward_part c.args.send.now c.args.words.now c.args.log.now c.args.receive.now c.args.p c.advance-step.result c.advance-step.new.receive c.advance-step.new.log c.requires.0 c.requires.1 c.advance-step.auto.log c.advance-step.ensures
+returns c = forward_part c.args.send.now c.args.words.now c.args.log.now c.args.receive.now c.args.p c.in_ok-step.step c.advance.new.receive c.advance.new.log c.requires.0 c.requires.1 c.advance.auto.log
+    (rw c.in_ok-step.was at c.advance.ensures)

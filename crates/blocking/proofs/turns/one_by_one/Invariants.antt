@@ -4,11 +4,11 @@ use lib.ListN.{length}
 use Rattle.stretches.specs.Stretches.{Carried}
 use Rattle.blocking.proofs.turns.one_by_one.Given as goal
 
-abbrev pub invariant-loop-end : goal.invariant-loop-end
-invariant-loop-end l = Carried l.send l.words l.initial.log l.initial.receive l.initial.p l.log l.receive l.p
+abbrev pub invariant-loop-next : goal.invariant-loop-next
+invariant-loop-next l = Carried l.send l.words l.initial.log l.initial.receive l.initial.p l.log l.receive l.p
 
-abbrev pub decreases-loop-end : goal.decreases-loop-end
-decreases-loop-end l = length l.log - l.p.logged
+abbrev pub decreases-loop-next : goal.decreases-loop-next
+decreases-loop-next l = length l.log - l.p.logged
 
 abbrev pub invariant-transfer : goal.invariant-transfer
 invariant-transfer l = Carried l.send l.words l.initial.log l.initial.receive l.initial.p l.log l.receive l.p

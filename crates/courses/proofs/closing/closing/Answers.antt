@@ -1,56 +1,44 @@
 -- `courses::closing::closing` meets its contract.
-use mathlib.Core.Path.{refl, ap, ◌∙◌}
+use mathlib.Core.Path.{refl}
 use native.Mathlib.Omega.{arith}
-use lib.ListN.{length, get_or}
+use lib.ListN.{length, get_or, drop}
 use Prim.Native.Nat.{◌+◌, ◌≤◌, ◌<◌}
-use mathlib.Core.Bool.{cond}
-use Rattle.wanted.specs.declared.Wanted.TheVariants.{Txis, Rxne}
-use Rattle.phases.specs.declared.Phase.TheVariants.{Wait}
-use Rattle.parked.proofs.Phases.{at_phase}
-use Rattle.phases.specs.declared.Kind.{Kind}
-use Rattle.phases.specs.Kinds.{incoming, restarts}
+use Rattle.wanted.specs.declared.Wanted.TheVariants.{Rxne}
+use Rattle.phases.specs.declared.End.TheVariants.{Stopf}
+use Rattle.phases.specs.declared.Phase.TheVariants.{Transfer, Ended}
+use Rattle.parked.proofs.Phases.{at_phase, wants_at_lem}
+use Rattle.runs.proofs.OneAccess.{run_over}
+use Rattle.runs.proofs.Phased.{next_wait, next_in, met}
+use Rattle.stretches.proofs.Carries.{carried_none}
 use Rattle.stretches.proofs.Moves.{asks}
-use Rattle.courses.proofs.Blocks.{stop, stop_found, wanted_outside}
-use Rattle.courses.proofs.Ends.{carried_turn}
+use Rattle.courses.proofs.Blocks.{stop_on, stop_found, wanted_outside}
+use Rattle.courses.proofs.Ends.{out}
 use Rattle.courses.proofs.closing.closing.Goals as goal
 
-pub returns-then-words-taken : goal.returns-then-words-taken
-returns-then-words-taken c = λ p k l. (c.if-words-taken.true, refl, refl, refl)
-
-pub asked-requires : goal.asked-requires
-asked-requires c = c.requires.0
-
-pub overflow_add-result : goal.overflow_add-result
-overflow_add-result c = omega (arith, (rw c.if-asked.true at c.asked.ensures).1)
-
-pub overflow_add-result-then-asked : goal.overflow_add-result-then-asked
-overflow_add-result-then-asked c = omega (arith, (rw c.if-asked.true at c.asked.ensures).2)
+pub returns-then-words-p : goal.returns-then-words-p
+returns-then-words-p c = λ s b. let p = c.args.p in
+    record { carried = carried_none c.requires.0 c.requires.1; stands = out s c.args.words.now b p.parked p.taken _ _ (next_wait s p.parked c.requires.2) c.if-words-p.true }
 
 pub returns-then-asked : goal.returns-then-asked
-returns-then-asked c = λ p k l. let h = rw c.if-asked.true at c.asked.ensures in
-    let w = c.hears.ensures h.0 in
-    let word : c.args.m.taken < length c.args.words.now = omega (arith, h.1) in
-    (h.1, ap incoming k ∙ w.0, λ s b. rw h.4 (carried_turn (asks s c.args.words.now c.args.log.now b p c.args.m.count c.args.m.taken c.args.m.logged (c.args.m.logged + 2) word h.2 refl (ap incoming k ∙ w.0) (rw l w.1) h.3) _))
-
-pub stopped-requires : goal.stopped-requires
-stopped-requires c = c.requires.0
-
-pub overflow_add-result-then-stopped : goal.overflow_add-result-then-stopped
-overflow_add-result-then-stopped c = omega (arith, (rw c.if-stopped.true at c.stopped.ensures).1)
-
-pub overflow_add-result-then-stopped-2 : goal.overflow_add-result-then-stopped-2
-overflow_add-result-then-stopped-2 c = let still = rw c.if-asked.false at c.asked.ensures in
-    record { fits = omega (arith, (rw c.if-stopped.true at c.stopped.ensures).2, ap length still) }
+returns-then-asked c = λ s b. let h = rw c.if-asked.true at c.asked.ensures in
+    let p = c.args.p in
+    let q = at_phase p.parked Transfer p.parked.count in
+    let word : p.taken < length c.args.words.now = omega (arith, h.2) in
+    record {
+      carried = rw h.5 (asks s c.args.words.now c.args.log.now b p.parked p.taken p.logged (p.logged + 2) c.requires.2 word h.3 refl h.0 h.1 (met _ Rxne h.4));
+      stands = out s c.args.words.now b q (p.taken + 1) _ _ (next_in s q refl h.0) h.2;
+    }
 
 pub returns-then-stopped : goal.returns-then-stopped
-returns-then-stopped c = λ p k l s b. let still = rw c.if-asked.false at c.asked.ensures in
+returns-then-stopped c = λ s b. let still = rw c.if-asked.false at c.asked.ensures in
     let h = rw c.if-stopped.true at c.stopped.ensures in
     let q = h.0 in
-    let w = at_phase p Wait c.args.m.count in
-    let want = wanted_outside w (ap restarts k ∙ q.once) ∙ ap (λ (x : Kind). cond (incoming x) Rxne Txis) k in
-    let room : c.args.m.logged + 8 ≤ length c.args.log.now = rw still at h.2 in
-    rw (h.3, still)
-    (carried_turn (stop s c.args.words.now c.args.log.now b p c.args.m.count c.args.m.taken c.args.m.logged (stop_found w (get_or c.args.words.now c.args.m.taken 0) _ want q.stop) q.txis q.txe h.1 room) _)
-
-pub returns : goal.returns
-returns c = λ p k l. (refl, refl, (rw c.if-stopped.false at c.stopped.ensures) ∙ (rw c.if-asked.false at c.asked.ensures))
+    let p = c.args.p in
+    let ended = at_phase p.parked (Ended Stopf) p.parked.count in
+    let room : p.logged + 8 ≤ length c.args.log.now = rw still at h.2 in
+    record {
+      carried =
+          rw (h.3, still)
+          (stop_on s c.args.words.now c.args.log.now b p.parked p.taken p.logged c.requires.2 (stop_found p.parked (get_or c.args.words.now p.taken 0) _ (wanted_outside p.parked q.once) q.stop) q.txis q.txe h.1 room);
+      stands = λ n. run_over s ended b n (drop (p.taken + 3) c.args.words.now) Stopf (wants_at_lem ended _ (Ended Stopf) refl);
+    }

@@ -1,24 +1,24 @@
 -- `courses::course::follow` meets its contract.
-use mathlib.Core.Path.{refl, sym, ◌∙◌}
+use mathlib.Core.Path.{refl, sym, ap, ◌∙◌}
 use Prim.Native.Nat.{zero-le}
+use Rattle.stretches.specs.declared.Progress.{Progress}
 use Rattle.stretches.proofs.Carries.{carried_none}
 use Rattle.courses.proofs.Ends.{follows_on}
 use Rattle.courses.proofs.course.follow.Goals as goal
 
-pub opened-o-requires : goal.opened-o-requires
-opened-o-requires c = (c.fits.ensures c.if-fits.true).1
-
 pub through-requires : goal.through-requires
-through-requires c = let k = (c.opened-o.ensures c.args.send.now).yes c.if-o.true in
-    let f = c.fits.ensures c.if-fits.true in
-    (k.words, k.room, f.0, f.1 ∙ sym k.wide)
+through-requires c = let o = rw c.in-Some.is at (c.opened.ensures c.args.send.now) in
+    let k = o.1 in (
+      k.words,
+      k.room,
+      ap (λ (q : Progress). q.parked.phase) o.0,
+      ap (λ (q : Progress). q.parked.send) o.0 ∙ c.if-call-send.true,
+      ap (λ (q : Progress). q.parked.receive) o.0 ∙ c.if-call-receive.true ∙ sym k.wide,
+    )
 
-pub returns-then-o : goal.returns-then-o
-returns-then-o c = follows_on ((c.opened-o.ensures c.args.send.now).yes c.if-o.true) c.through.ensures
+pub returns-in-Some : goal.returns-in-Some
+returns-in-Some c = let o = rw c.in-Some.is at (c.opened.ensures c.args.send.now) in follows_on o.1 c.through.ensures
 
-pub returns-then-fits : goal.returns-then-fits
-returns-then-fits c = let o = c.opened-o.ensures c.args.send.now in
-    rw (c.from_start.ensures, o.entries c.if-o.false, o.buffer c.if-o.false) (record { carried = carried_none zero-le zero-le; stands = refl })
-
-pub returns : goal.returns
-returns c = rw c.from_start-2.ensures (record { carried = carried_none zero-le zero-le; stands = refl })
+pub returns-in_default : goal.returns-in_default
+returns-in_default c = let o = rw c.in_default.is at (c.opened.ensures c.args.send.now) in
+    rw (o.0, o.1) (record { carried = carried_none zero-le zero-le; stands = refl })

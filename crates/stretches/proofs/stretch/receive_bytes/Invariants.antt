@@ -2,11 +2,10 @@
 use Prim.Native.Nat.{◌-◌, ◌≤◌}
 use lib.ListN.{length}
 use Rattle.stretches.specs.Stretches.{Receives}
-use Rattle.stretches.proofs.Moves.{moved}
 use Rattle.stretches.proofs.stretch.receive_bytes.Given as goal
 
-abbrev pub invariant-loop-rxdr : goal.invariant-loop-rxdr
-invariant-loop-rxdr l = Receives l.words l.initial.log l.initial.receive (moved l.initial.count l.initial.taken l.initial.logged) l.log l.receive (moved l.count l.taken l.logged) × (l.taken ≤ length l.words)
+abbrev pub invariant-loop-p : goal.invariant-loop-p
+invariant-loop-p l = Receives l.words l.initial.log l.initial.receive l.initial.p l.log l.receive l.p × (l.p.taken ≤ length l.words)
 
-abbrev pub decreases-loop-rxdr : goal.decreases-loop-rxdr
-decreases-loop-rxdr l = length l.words - l.taken
+abbrev pub decreases-loop-p : goal.decreases-loop-p
+decreases-loop-p l = length l.words - l.p.taken

@@ -1,6 +1,0 @@
--- `blocking::slave::slave_write` meets its contract.
-use Rattle.blocking.proofs.Wholes.{unlent}
-use Rattle.blocking.proofs.slave.slave_write.Goals as goal
-
-pub returns : goal.returns
-returns c = unlent c.begin.ensures c.begin.auto.receive

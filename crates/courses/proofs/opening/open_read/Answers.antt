@@ -1,5 +1,0 @@
--- `courses::opening::open_read` meets its contract.
-use Rattle.courses.proofs.opening.open_read.Goals as goal
-
-pub returns : goal.returns
-returns c = rw (c.started-setup.ensures, c.sadd8.ensures) at c.put_at.ensures

@@ -1,7 +1,0 @@
--- `ffi::seen::i2c_slave_sbc` meets its contract: the call leaves the link as it was.
-use Rattle.std.proofs.Common.{refl}
-use Rattle.ffi.proofs.Stays.{stays}
-use Rattle.ffi.proofs.seen.i2c_slave_sbc.Goals as goal
-
-pub returns : goal.returns
-returns c = record { report = c.slave_sbc-called.result.report; held = stays _ _ refl _ _ _ _ c.slave_sbc-called.ensures; numbers = c.put.ensures }

@@ -1,6 +1,0 @@
--- `flag_order::any_fault` meets its contract.
-
-use Rattle.flag_order.proofs.any_fault.Goals as goal
-
-pub returns : goal.returns
-returns c = rw (c.is_set.ensures, c.is_set-2.ensures, c.is_set-3.ensures)

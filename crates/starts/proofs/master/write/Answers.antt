@@ -1,7 +1,0 @@
--- `starts::master::write` meets its contract: what `write_fields` ensures, at the fields that it is not lent.
-use Rattle.ending.specs.Outcome.{outcome}
-use Rattle.starts.proofs.master.write.Goals as goal
-
-pub returns : goal.returns
-unfolding outcome
-returns c = c.write_fields.ensures c.args.errors.now

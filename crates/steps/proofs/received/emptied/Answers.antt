@@ -1,5 +1,0 @@
--- `steps::received::emptied` meets its contract.
-use Rattle.steps.proofs.received.emptied.Goals as goal
-
-pub returns : goal.returns
-returns c = rw (c.word_at-2.ensures, c.word_at.ensures) at c.settle.ensures

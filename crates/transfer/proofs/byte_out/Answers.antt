@@ -1,9 +1,0 @@
--- `transfer::byte_out` meets its contract.
-use borrow.Author.Tests.{lt-ltb, le-ltb}
-use Rattle.transfer.proofs.byte_out.Goals as goal
-
-pub returns-then-index-length : goal.returns-then-index-length
-returns-then-index-length c = rw (lt-ltb _ _ c.if-index-length.true) c.sent.ensures
-
-pub returns : goal.returns
-returns c = rw (le-ltb _ _ c.if-index-length.false)
