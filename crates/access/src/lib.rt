@@ -1,6 +1,6 @@
 // Accesses and the log of them, two places an access: the register's number and the word. `settling` has what logs them.
 // Every call takes its words and its log side by side, as two lent slices: in a struct that holds the `&mut` log each contract
-// would have to say that it is still the caller's, and read its end through the struct's parts.
+// would have to say that it is still the caller's, and read its end through the struct's parts. So it is with the two slices of a blocking call.
 #![tactic(auto)]
 
 ghost use Rattle.std.specs.Prelude.{◌≡◌};

@@ -17,12 +17,8 @@ pub fn slave_addressed(words: &[u32], log: &mut [u32]) -> Report
     let first = word_at(words, 0);
     if Isr::ADDR.is_set(first) {
         let second = word_at(words, 1);
-        let answer = Answer::Addressed {
-            address: Isr::address_code(second),
-            direction: Isr::direction(second),
-        };
         settle(
-            answer,
+            Isr::addressed(second),
             2,
             &[Isr::READ, first, Isr::READ, second],
             words,

@@ -57,6 +57,7 @@ pub enum Answer {
     Bytes(usize),
 }
 
+// Document 01 has one list of answers, the refusals among them, so `Answer` names each and this table joins the two.
 impl From<Refusal> for Answer {
     ghost from_gives = { λ refusal answer. answer ≡ answer_of refusal };
 
@@ -74,7 +75,8 @@ impl From<Refusal> for Answer {
 }
 
 impl Answer {
-    // The answer's number; for an answer that is printed with a letter the letter's code.
+    // The answer's number; for an answer that is printed with a letter the letter's code. They are document 01's, which no order of the
+    // cases gives, since some hold values.
     pub fn number(self) -> u32
         ensures { result ≡ (said self).number }
     {

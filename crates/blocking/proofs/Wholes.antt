@@ -1,9 +1,8 @@
 -- The whole outcome of a call: one that follows plainly to its end, and one that is begun.
-use mathlib.Core.Path.{◌≡◌, refl, sym, subst}
+use mathlib.Core.Path.{◌≡◌, refl, subst}
 use mathlib.Core.Bool.{true, false}
-use mathlib.Core.List.{List, [], ◌∷◌}
+use mathlib.Core.List.{List, []}
 use Prim.Native.Nat.{ℕ, ◌/◌}
-use native.Mathlib.Omega.{arith}
 use lib.ListN.{length}
 use Rattle.std.specs.Prelude.{Option, Some}
 use Rattle.answers.specs.Answers.{says}
@@ -13,10 +12,10 @@ use Rattle.phases.specs.Lengths.{lengths}
 use Rattle.parked.specs.declared.Parked.{Parked}
 use Rattle.parked.specs.Refusals.{begun, refused}
 use Rattle.runs.specs.declared.Ran.{Ran}
-use Rattle.runs.specs.Run.{Outcome, stopped, runs, outcome, called, Whole}
+use Rattle.runs.specs.Run.{stopped, runs, outcome, called, Whole}
 use Rattle.courses.specs.declared.Followed.{Followed}
 use Rattle.courses.specs.Courses.{Stands, Follows, fresh}
-use Rattle.blocking.specs.Steps.{Answered, Rest}
+use Rattle.blocking.specs.Steps.{Answered}
 use Rattle.blocking.proofs.Finish.{going_none, finish}
 
 -- the whole run, where what follows plainly ends the call

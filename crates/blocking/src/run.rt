@@ -16,10 +16,10 @@ fn course(call: Parked, send: &[u8], receive: &mut [u8], words: &[u32], log: &mu
     ensures { Whole (runs send.now (room log.old) call receive.old words.now) log.old result log.new receive.new }
 {
     let followed = follow(call, send, receive, words, log);
-    match followed.end {
-        Some(end) => answered(followed.progress, end),
-        None => one_by_one(followed.progress, send, receive, words, log),
+    if let Some(end) = followed.end {
+        return answered(followed.progress, end);
     }
+    one_by_one(followed.progress, send, receive, words, log)
 }
 
 // A call that makes no access.
@@ -37,10 +37,9 @@ pub fn run(call: Parked, send: &[u8], receive: &mut [u8], words: &[u32], log: &m
     ensures { Whole (outcome send.now (room log.old) call receive.old words.now) log.old result log.new receive.new }
 {
     if call.wrong(send.len(), receive.len()) {
-        refused(call, Refusal::WrongCall)
-    } else {
-        course(call, send, receive, words, log)
+        return refused(call, Refusal::WrongCall);
     }
+    course(call, send, receive, words, log)
 }
 
 // Resumes a parked call with the rest of the words, from the first one not taken.
@@ -78,13 +77,12 @@ pub fn begin(
         phase: kind.opening(),
         count: 0,
     };
-    if kind.lengths(send.len(), receive.len()) {
-        course(begun, send, receive, words, log)
-    } else {
+    if !kind.lengths(send.len(), receive.len()) {
         let ended = Parked {
             phase: Phase::Ended(End::BadLength),
             ..begun
         };
-        refused(ended, Refusal::BadLength)
+        return refused(ended, Refusal::BadLength);
     }
+    course(begun, send, receive, words, log)
 }

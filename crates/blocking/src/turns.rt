@@ -1,5 +1,6 @@
 // A run in single turns, one access after the other. It is right for every call, whatever words come.
 ghost use Rattle.std.specs.Prelude.{◌≤◌, length};
+ghost use Rattle.stretches.specs.Stretches.{Within};
 ghost use Rattle.blocking.specs.Steps.{Answered, Forward, Rest};
 
 use crate::step::advance;
@@ -16,7 +17,7 @@ fn forward(
     words: &[u32],
     log: &mut [u32],
 ) -> Result<Progress, End>
-    requires { (p.taken ≤ length words.now) × (p.logged ≤ length log.old) }
+    requires { Within p words.now log.old }
     ensures { Forward send.now words.now log.old receive.old p result log.new receive.new }
 {
     let step = advance(
@@ -55,10 +56,11 @@ pub(crate) fn one_by_one(
     words: &[u32],
     log: &mut [u32],
 ) -> Ran
-    requires { (from.taken ≤ length words.now) × (from.logged ≤ length log.old) }
+    requires { Within from words.now log.old }
     ensures { Rest send.now words.now log.old receive.old from result log.new receive.new }
 {
     let mut p = from;
+    // The labelled transfer loop round the flag wait, the form that document 01 names.
     'transfer: loop {
         // From the second round on the first access sends or receives the byte that the last wait found; then the call waits for the next flag.
         // STOPF, ADDR, BERR and ARLO end the whole call, and so does a missing word or room.

@@ -82,16 +82,6 @@ with_second_address address mask c = record {
 abbrev pub filtered : ℕ → Config → Result Config Refusal
 filtered cycles c = cond (filter_allowed cycles) (Ok (with_filters c.analog_filter cycles c)) (Err BadFilter)
 
-abbrev pub said_filtered : Result Config Refusal → Said
-said_filtered (Ok c) = says 0 []
-said_filtered (Err refusal) = said (answer_of refusal)
-
-abbrev pub filter_answer : ℕ → Said
-filter_answer cycles = cond (filter_allowed cycles) (says 0 []) (says 8 [])
-
-abbrev pub with_filter : ℕ → Config → Config
-with_filter cycles c = cond (filter_allowed cycles) (with_filters c.analog_filter cycles c) c
-
 -- each division rounded down
 abbrev pub quotient : ℕ → ℕ → ℕ → ℕ
 quotient clock presc speed = clock / 2 / (presc + 1) / speed

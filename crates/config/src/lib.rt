@@ -30,7 +30,7 @@ impl SlaveAddressMask {
     }
 }
 
-// A mask by its number. Every number is taken: 7 and above are all bits.
+// A mask by its number. Every number is taken: 7 and above are all bits. No derive makes a case from a number.
 impl From<u32> for SlaveAddressMask {
     ghost from_gives = { λ number mask. mask ≡ mask_of number };
 
@@ -50,6 +50,7 @@ impl From<u32> for SlaveAddressMask {
 
 #[derive(Clone, Copy, Debug, PartialEq, Eq)]
 pub struct Config {
+    // The fields have the names of the original: an own address of 0 is none, and `address_11bits` says how the first is read.
     pub speed: Option<u32>,
     pub timing: Option<u32>,
     pub analog_filter: bool,

@@ -1,10 +1,10 @@
 -- Accesses that follow each other plainly: the opening of a master's call, its second START, its stop.
 use Prim.Native.Nat.{ℕ, suc, ◌+◌, ◌≤◌, ◌<◌}
-use mathlib.Core.Path.{◌≡◌, refl, sym, subst, ap₂, ◌∙◌}
+use mathlib.Core.Path.{◌≡◌, refl, sym, subst, ◌∙◌}
 use mathlib.Core.Bool.{Bool, true, false, cond}
 use mathlib.Core.List.{List, [], ◌∷◌}
 use native.Mathlib.Omega.{arith}
-use lib.ListN.{length, get_or, set}
+use lib.ListN.{length, get_or}
 use lib.Seq.{sets}
 use borrow.Author.Tests.{le-ltb}
 use Rattle.std.specs.Prelude.{Ok, Some}
@@ -12,14 +12,14 @@ use Rattle.wanted.specs.declared.Wanted.{Wanted}
 use Rattle.wanted.specs.declared.Wanted.TheVariants.{Txis, Rxne, Tc}
 use Rattle.wanted.specs.declared.Found.TheVariants.{Stopf as MetStopf}
 use Rattle.fields.specs.Layout.{CR2, ISR, ICR, RXDR, TXIS, TXE, TC, STOPF, offset, ◌has◌}
-use Rattle.fields.specs.Words.{starting, started, flushed, cleared, sadd8, received}
+use Rattle.fields.specs.Words.{starting, started, flushed, cleared, sadd8}
 use Rattle.wanted.specs.Found.{found_in}
 use Rattle.phases.specs.declared.Kind.TheVariants.{Write, Read, WriteRead, ReadBack}
 use Rattle.phases.specs.declared.End.TheVariants.{Stopf}
 use Rattle.phases.specs.declared.Opening.TheVariants.{Start, Drain, Modify, Setup, Flush}
 use Rattle.phases.specs.declared.Role.TheVariants.{Other}
 use Rattle.phases.specs.declared.Phase.{Phase}
-use Rattle.phases.specs.declared.Phase.TheVariants.{Open, Wait, Transfer, Restart, FlushTxis, FlushTxe, ClearStopf, Ended}
+use Rattle.phases.specs.declared.Phase.TheVariants.{Open, Wait, Restart, FlushTxis, FlushTxe, ClearStopf, Ended}
 use Rattle.parked.specs.declared.Next.TheVariants.{Read as ReadA, Write as WriteA}
 use Rattle.parked.specs.declared.Parked.{Parked}
 use Rattle.phases.specs.Kinds.{incoming, restarts}

@@ -1,6 +1,7 @@
 // Where a call that waits is, after its bytes: at the end of the words, at its stop, or before whatever else comes.
 ghost use Rattle.std.specs.Prelude.{ℕ, ◌≤◌, ◌≡◌, true, cond, List, length};
 ghost use Rattle.phases.specs.Kinds.{incoming};
+ghost use Rattle.stretches.specs.Stretches.{Within};
 ghost use Rattle.courses.specs.Courses.{Asked, Stopped, Quiet, Follows};
 
 use crate::Followed;
@@ -9,7 +10,8 @@ use flags::{Icr, Isr};
 use parked::{End, Kind, Parked, Phase};
 use stretches::Progress;
 use stretches::polls::put_at;
-use wanted::{Found, Wanted};
+use waits::wanted;
+use wanted::Found;
 
 // RXNE in the last word: the byte is next.
 fn asked(p: Progress, words: &[u32], log: &mut [u32]) -> bool
@@ -22,17 +24,6 @@ fn asked(p: Progress, words: &[u32], log: &mut [u32]) -> bool
     hears(p.parked) && Isr::RXNE.is_set(*isr) && put_at(log, p.logged, &[Isr::READ, *isr])
 }
 
-// The flag that is waited for outside the wait for TC.
-fn wanted(kind: Kind) -> Wanted
-    ensures { result ≡ cond (incoming kind) Wanted.Rxne Wanted.Txis }
-{
-    if kind.incoming() {
-        Wanted::Rxne
-    } else {
-        Wanted::Txis
-    }
-}
-
 // STOPF, and no flag that the wait looks at before it, with nothing to flush.
 fn quiet(kind: Kind, isr: u32, first: u32, second: u32) -> bool
     ensures { result ≡ true → Quiet kind isr first second }
@@ -40,7 +31,7 @@ fn quiet(kind: Kind, isr: u32, first: u32, second: u32) -> bool
     !kind.restarts()
         && !Isr::TXIS.is_set(first)
         && !Isr::TXE.is_set(second)
-        && matches!(wanted(kind).found_in(isr), Some(Found::Stopf))
+        && wanted(kind, true).found_in(isr) == Some(Found::Stopf)
 }
 
 // The four accesses of the stop.
@@ -73,7 +64,8 @@ fn stopped(p: Progress, words: &[u32], log: &mut [u32]) -> bool
 
 // The end of the words, the stop, or whatever else comes.
 pub(crate) fn closing(p: Progress, words: &[u32], log: &mut [u32]) -> Followed
-    requires { (p.taken ≤ length words.now) × (p.logged ≤ length log.old) × (p.parked.phase ≡ Phase.Wait) }
+    requires within { Within p words.now log.old }
+    requires waits { p.parked.phase ≡ Phase.Wait }
     ensures { (s b : List ℕ) → Follows s words.now log.old b p log.new b result }
 {
     if words.len() == p.taken {

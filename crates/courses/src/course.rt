@@ -1,5 +1,6 @@
 // The course of a call that is not wrong, as far as it follows plainly.
 ghost use Rattle.std.specs.Prelude.{ℕ, ◌≤◌, ◌≡◌, List, length};
+ghost use Rattle.stretches.specs.Stretches.{Within};
 ghost use Rattle.courses.specs.Courses.{Sent, Heard, Restarted, Turns, Follows, fresh};
 
 use crate::Followed;
@@ -12,9 +13,11 @@ use stretches::Progress;
 use stretches::polls::put_at;
 use stretches::stretch::{receive_bytes, send_bytes};
 
-// Bytes go out, where the call sends.
+// Bytes go out, where the call sends. What is required here and below speaks of the lent words, log and slices, so no type can hold it.
 fn sent(p: Progress, send: &[u8], words: &[u32], log: &mut [u32]) -> Progress
-    requires { (p.taken ≤ length words.now) × (p.logged ≤ length log.old) × (p.parked.phase ≡ Phase.Wait) × (p.parked.send ≡ length send.now) }
+    requires within { Within p words.now log.old }
+    requires waits { p.parked.phase ≡ Phase.Wait }
+    requires send { p.parked.send ≡ length send.now }
     ensures { Sent send.now words.now log.old p log.new result }
 {
     if p.parked.kind.incoming() {
@@ -26,7 +29,9 @@ fn sent(p: Progress, send: &[u8], words: &[u32], log: &mut [u32]) -> Progress
 
 // Bytes come in, where the call receives.
 fn heard(p: Progress, receive: &mut [u8], words: &[u32], log: &mut [u32]) -> Progress
-    requires { (p.taken ≤ length words.now) × (p.logged ≤ length log.old) × (p.parked.phase ≡ Phase.Wait) × (p.parked.receive ≡ length receive.old) }
+    requires within { Within p words.now log.old }
+    requires waits { p.parked.phase ≡ Phase.Wait }
+    requires receive { p.parked.receive ≡ length receive.old }
     ensures { Heard words.now log.old receive.old p log.new receive.new result }
 {
     if p.parked.kind.incoming() {
@@ -57,7 +62,8 @@ fn restarted(p: Progress, words: &[u32], log: &mut [u32]) -> bool
 
 // TC begins the second half of a `write_read`.
 fn turned(p: Progress, words: &[u32], log: &mut [u32]) -> Progress
-    requires { (p.taken ≤ length words.now) × (p.logged ≤ length log.old) × (p.parked.phase ≡ Phase.Wait) }
+    requires within { Within p words.now log.old }
+    requires waits { p.parked.phase ≡ Phase.Wait }
     ensures { Turns words.now log.old p log.new result }
 {
     if restarted(p, words, log) {
@@ -77,7 +83,10 @@ fn turned(p: Progress, words: &[u32], log: &mut [u32]) -> Progress
 
 // A call that waits: its bytes out, its second half, its bytes in, and its end.
 fn through(p: Progress, send: &[u8], receive: &mut [u8], words: &[u32], log: &mut [u32]) -> Followed
-    requires { (p.taken ≤ length words.now) × (p.logged ≤ length log.old) × (p.parked.phase ≡ Phase.Wait) × (p.parked.send ≡ length send.now) × (p.parked.receive ≡ length receive.old) }
+    requires within { Within p words.now log.old }
+    requires waits { p.parked.phase ≡ Phase.Wait }
+    requires send { p.parked.send ≡ length send.now }
+    requires receive { p.parked.receive ≡ length receive.old }
     ensures { Follows send.now words.now log.old receive.old p log.new receive.new result }
 {
     let out = sent(p, send, words, log);

@@ -7,7 +7,8 @@ ghost use Rattle.flag_order.specs.FlagOrder.{taken_as};
 
 use flags::Isr;
 
-// The flag that an ISR word is taken as.
+// The flag that an ISR word is taken as. `Nothing` is a case like the others, not a missing value: a check makes its access then too, and
+// the definitions of a step and of the book have a line for it.
 #[derive(Clone, Copy, Debug, PartialEq, Eq)]
 pub enum Flag {
     Berr,

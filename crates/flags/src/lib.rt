@@ -1,13 +1,13 @@
 // ISR and ICR: the flags, and what clears them.
 #![tactic(auto)]
 
-ghost use Rattle.std.specs.Prelude.{◌≡◌};
+ghost use Rattle.std.specs.Prelude.{◌≡◌, [], ◌∷◌};
 ghost use Rattle.fields.specs.Field.{put};
 ghost use Rattle.fields.specs.Words.{flushed};
-ghost use Rattle.answers.specs.Answers.{direction_number};
+ghost use Rattle.answers.specs.Answers.{direction_number, said, says};
 ghost use Rattle.flags.specs.Flags.{direction_of, address_code, event_of};
 
-use answers::I2cDirection;
+use answers::{Answer, I2cDirection};
 use fields::Field;
 
 // What the blocking `listen` can ask for: ADDR or RXNE.
@@ -87,6 +87,16 @@ impl Isr {
         ensures { result ≡ address_code isr }
     {
         Isr::ADDCODE.get(isr) as u16
+    }
+
+    // Addressed by a master: the address that it sent, and who sends next.
+    pub fn addressed(isr: u32) -> Answer
+        ensures { said result ≡ says 0x41 (address_code isr ∷ direction_of isr ∷ []) }
+    {
+        Answer::Addressed {
+            address: Isr::address_code(isr),
+            direction: Isr::direction(isr),
+        }
     }
 
     // The write that empties TXDR.

@@ -29,7 +29,8 @@ pub fn lay(call: Parked, kept: &mut [u64; 7])
     ];
 }
 
-// A phase's number, and the word that it remembers, 0 where it has none.
+// A phase's number, and the word that it remembers, 0 where it has none. C keeps these numbers; no cast gives them, since some phases hold
+// a word.
 fn numbers_of(phase: Phase) -> (u64, u32)
     ensures number { result.0 ≡ phase_number phase }
     ensures word { result.1 ≡ phase_word phase }

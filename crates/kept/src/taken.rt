@@ -1,4 +1,4 @@
-// The phase of a parked call by its number, and the word that it remembers. Every number is taken.
+// The phase of a parked call by its number, and the word that it remembers. Every number is taken; no derive makes a case from a number.
 ghost use Rattle.std.specs.Prelude.{◌≡◌};
 ghost use Rattle.kept.specs.Kept.{phase_of};
 

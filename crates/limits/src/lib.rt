@@ -18,7 +18,8 @@ pub fn length_allowed(length: usize) -> bool
     (1..=255).contains(&length)
 }
 
-// Whether no run of calls leaves such a link: answer 12.
+// Whether no run of calls leaves such a link: answer 12. By its numbers, since `Link` stands in a crate above, whose proof each wrong reading
+// of these limits would repeat.
 pub fn impossible(index: usize, length: usize, length_write_read: usize, watchdog: u16) -> bool
     ensures { result ≡ impossible_at index length length_write_read watchdog }
 {

@@ -3,26 +3,14 @@ ghost use Rattle.std.specs.Prelude.{length};
 ghost use Rattle.access.specs.Access.{Reported};
 ghost use Rattle.never_wait.specs.NeverWait.{slave_sbc};
 
+use crate::interrupts::cr1_written;
 use access::Report;
 pub use addressing::slave_addressed;
-use answers::Answer;
 use registers::cr1::Cr1;
-use settling::{settle, word_at};
+use settling::word_at;
 
 pub fn slave_sbc(sbc_enabled: bool, words: &[u32], log: &mut [u32]) -> Report
     ensures { Reported (slave_sbc sbc_enabled words.now (length log.old)) log.old result log.new }
 {
-    let cr1 = word_at(words, 0);
-    settle(
-        Answer::Done,
-        1,
-        &[
-            Cr1::READ,
-            cr1,
-            Cr1::WRITE,
-            Cr1::SBC.switch(cr1, sbc_enabled),
-        ],
-        words,
-        log,
-    )
+    cr1_written(Cr1::SBC.switch(word_at(words, 0), sbc_enabled), words, log)
 }

@@ -1,4 +1,4 @@
-// Calls on a lent link, each handing on to the method that the by-value call hands on to. No link is copied, but by `get_errors_reset`.
+// Calls on a lent link, each handing on to the method that the by-value call hands on to, so that no link is copied.
 ghost use Rattle.std.specs.Prelude.{ℕ, List, length as size};
 ghost use Rattle.ending.specs.Call.{check_isr_flags, master_write, master_write_read, master_read, slave_write, execute_watchdog, get_errors_reset};
 ghost use Rattle.ending.specs.Outcome.{outcome, Matches};
@@ -75,7 +75,5 @@ pub fn execute_watchdog(link: &mut Link, words: &[u32], log: &mut [u32]) -> Repo
 pub fn get_errors_reset(link: &mut Link) -> Report
     ensures { (words log : List ℕ) → Matches (outcome (record { call = get_errors_reset; words = words; places = size log }) (model link.old)) result (model link.new) log log }
 {
-    let called = link.get_errors_reset();
-    *link = called.link;
-    called.report
+    link.take_errors().unwrap_or_else(Report::from)
 }

@@ -37,6 +37,7 @@ pub struct Link {
     pub errors: u32,
     // For a `master_write_read`, the length of the read that follows.
     pub length_write_read: usize,
+    // C has these bytes with their count beside them, so they are no vector.
     pub data: [u8; 255],
 }
 
@@ -49,7 +50,7 @@ pub struct Called {
 }
 
 impl Called {
-    // The link after a call, and the call's report or refusal.
+    // The link after a call, and the call's report or refusal. Document 01: a link goes in and comes back by value, and a later form lends it.
     fn of(link: Link, tried: Result<Report, Refusal>) -> Called
         ensures { (result.link ≡ link) × (result.report ≡ report_of tried) }
     {

@@ -9,6 +9,7 @@ ghost use Rattle.ending.specs.Outcome.{outcome, Matches};
 ghost use Rattle.nonblocking.specs.Model.{model};
 ghost use Rattle.nonblocking.specs.Made.{Made};
 
+use crate::control::cr1_written;
 use crate::{Called, Link};
 use access::Report;
 use answers::{Answer, Refusal};
@@ -72,9 +73,7 @@ impl Link {
         ensures { Made (slave_sbc on) words.now self.now self.now result log.old log.new }
     {
         self.possible()?;
-        let cr1 = word_at(words, 0);
-        let entries = [Cr1::READ, cr1, Cr1::WRITE, Cr1::SBC.switch(cr1, on)];
-        try_settle(Answer::Done, 1, &entries, words, log)
+        cr1_written(Cr1::SBC.switch(word_at(words, 0), on), words, log)
     }
 
     #[tactic(auto, unfolding(ending::specs::Outcome::outcome))]

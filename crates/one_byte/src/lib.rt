@@ -15,12 +15,13 @@ pub fn byte_out(send: &[u8], place: usize) -> u32
 }
 
 // The byte in the word of RXDR, which follows the word of ISR at a place; 0 where it is missing.
-#[tactic(auto, using(std::proofs::lemmas::List::get_or_past), unfolding(fields::specs::Field::get))]
 pub fn byte_in(words: &[u32], place: usize) -> u8
     ensures { result ≡ received (get_or words.now (place + 1) 0) }
 {
-    match words.get(place..) {
-        Some([_, word, ..]) => Rxdr::received(*word),
-        _ => 0,
-    }
+    let rxdr = if place < words.len() {
+        words.get(place + 1).copied().unwrap_or(0)
+    } else {
+        0
+    };
+    Rxdr::received(rxdr)
 }

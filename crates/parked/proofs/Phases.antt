@@ -7,10 +7,7 @@ use Rattle.phases.specs.declared.Phase.TheVariants.{Wait, Transfer}
 use Rattle.parked.specs.declared.Parked.{Parked}
 use Rattle.wanted.specs.Found.{found_in}
 use Rattle.parked.specs.Wants.{more, wants, wants_at}
-use Rattle.parked.specs.After.{phase_at, after_found, wanted, turns, moves, after}
-
-pub phase_at_lem : (p : Parked) (w : ℕ) (f : Phase) → p.phase ≡ f → phase_at p.phase p w ≡ phase_at f p w
-phase_at_lem p w f e = ap (λ (g : Phase). phase_at g p w) e
+use Rattle.parked.specs.After.{after_found, wanted, turns, moves, after}
 
 pub wants_at_lem : (p : Parked) (byte : ℕ) (f : Phase) → p.phase ≡ f → wants p byte ≡ wants_at f p byte
 unfolding wants

@@ -2,29 +2,14 @@
 ghost use Rattle.std.specs.Prelude.{◌≡◌};
 ghost use Rattle.answers.specs.Answers.{said};
 ghost use Rattle.wanted.specs.Found.{found_in};
-ghost use Rattle.waits.specs.Waits.{wanted as wanted_of};
 ghost use Rattle.parked.specs.After.{wanted, whole, addr_answer, stop_answer, answer, after_found};
 
 use crate::Parked;
-use crate::machine::addressed;
 use answers::Answer;
 use final_flags::compared;
-use phases::{End, Kind, Phase};
-use waits::after_found;
-use wanted::Wanted;
-
-// The flag that is waited for: TC where a `write_read` has sent its bytes.
-fn wanted(kind: Kind, more: bool) -> Wanted
-    ensures { result ≡ wanted_of kind more }
-{
-    if kind.incoming() {
-        Wanted::Rxne
-    } else if kind.restarts() && !more {
-        Wanted::Tc
-    } else {
-        Wanted::Txis
-    }
-}
+use flags::Isr;
+use phases::{End, Phase};
+use waits::{after_found, wanted};
 
 impl Parked {
     #[tactic(auto, unfolding(crate::specs::After::whole, crate::specs::After::compared))]
@@ -80,7 +65,7 @@ impl Parked {
             End::Arlo => Answer::ArbitrationLost,
             End::Addr => self.addr_answer(),
             End::Stopf => self.stop_answer(),
-            End::Addressed(isr) => addressed(isr),
+            End::Addressed(isr) => Isr::addressed(isr),
         }
     }
 }

@@ -3,17 +3,15 @@ ghost use Rattle.std.specs.Prelude.{◌≡◌, cond, [], ◌∷◌};
 ghost use Rattle.answers.specs.Answers.{said, says};
 ghost use Rattle.fields.specs.Words.{sadd8};
 ghost use Rattle.fields.specs.Layout.{TXIS, ADDR, ◌has◌};
-ghost use Rattle.flags.specs.Flags.{address_code, direction_of};
 ghost use Rattle.phases.specs.Kinds.{setup_word, incoming};
 ghost use Rattle.parked.specs.Wants.{span, more, wants_byte, wants};
 ghost use Rattle.parked.specs.After.{phase_at, turns, moves, after};
 
 use crate::{Next, Parked};
-use answers::Answer;
 use cr2::Cr2;
 use data_registers::{Rxdr, Txdr};
 use final_flags::pending_txe;
-use flags::{Icr, Isr};
+use flags::Isr;
 use phases::{End, Kind, Phase, Role};
 
 // The next access.
@@ -55,10 +53,7 @@ impl Parked {
                 keep: self.more(),
             }
         } else {
-            Next::Write {
-                number: Txdr::WRITE,
-                word: Txdr::sent(byte),
-            }
+            Next::write(Txdr::WRITE, Txdr::sent(byte))
         }
     }
 
@@ -70,53 +65,27 @@ impl Parked {
         Ok(match self.phase {
             Phase::Open(step) => self.wants_opening(step),
             Phase::Wait | Phase::FlushTxis | Phase::FlushTxe | Phase::Listen | Phase::Code =>
-                Next::Read {
-                    number: Isr::READ,
-                    keep: false,
-                },
+                Next::read(Isr::READ),
             Phase::Transfer => self.wants_byte(byte),
-            Phase::Restart => Next::Write {
-                number: Cr2::WRITE,
-                word: Cr2::started(0, Cr2::sadd8(self.address), self.receive, true, true),
-            },
-            Phase::Stretched => Next::Read {
-                number: Cr2::READ,
-                keep: false,
-            },
-            Phase::Refuse(cr2) => Next::Write {
-                number: Cr2::WRITE,
-                word: Cr2::refused(cr2),
-            },
-            Phase::ClearBerr => Next::Write {
-                number: Icr::WRITE,
-                word: Icr::cleared(Isr::BERR),
-            },
-            Phase::ClearArlo => Next::Write {
-                number: Icr::WRITE,
-                word: Icr::cleared(Isr::ARLO),
-            },
-            Phase::ClearNackf => Next::Write {
-                number: Icr::WRITE,
-                word: Icr::cleared(Isr::NACKF),
-            },
-            Phase::ClearStopf => Next::Write {
-                number: Icr::WRITE,
-                word: Icr::cleared(Isr::STOPF),
-            },
-            Phase::FlushDummy => Next::Write {
-                number: Txdr::WRITE,
-                word: Txdr::sent(0),
-            },
-            Phase::FlushEmpty => Next::Write {
-                number: Isr::WRITE,
-                word: Isr::flushed(),
-            },
+            Phase::Restart => Next::write(
+                Cr2::WRITE,
+                Cr2::started(0, Cr2::sadd8(self.address), self.receive, true, true),
+            ),
+            Phase::Stretched => Next::read(Cr2::READ),
+            Phase::Refuse(cr2) => Next::write(Cr2::WRITE, Cr2::refused(cr2)),
+            Phase::ClearBerr => Next::clear(Isr::BERR),
+            Phase::ClearArlo => Next::clear(Isr::ARLO),
+            Phase::ClearNackf => Next::clear(Isr::NACKF),
+            Phase::ClearStopf => Next::clear(Isr::STOPF),
+            Phase::FlushDummy => Next::write(Txdr::WRITE, Txdr::sent(0)),
+            Phase::FlushEmpty => Next::write(Isr::WRITE, Isr::flushed()),
             Phase::Ended(end) => return Err(end),
         })
     }
 }
 
-// `flush_txdr`: a pending TXIS is answered with dummy data.
+// `flush_txdr`: a pending TXIS is answered with dummy data. This and the other questions of a flag are named by what they do, which one
+// function of a flag and two phases would not say.
 fn pending_txis(isr: u32) -> Phase
     ensures { result ≡ cond (isr has TXIS) Phase.FlushDummy Phase.FlushTxe }
 {
@@ -135,16 +104,6 @@ fn listened(isr: u32) -> Phase
         Phase::Code
     } else {
         Phase::Listen
-    }
-}
-
-// The address that the master sent, and who sends next.
-pub fn addressed(isr: u32) -> Answer
-    ensures { said result ≡ says 0x41 (address_code isr ∷ direction_of isr ∷ []) }
-{
-    Answer::Addressed {
-        address: Isr::address_code(isr),
-        direction: Isr::direction(isr),
     }
 }
 

@@ -6,7 +6,7 @@ ghost use Rattle.phases.specs.Numbers.{kind_of};
 use crate::{Kind, Opening, Phase};
 use cr2::Cr2;
 
-// A kind by its number, `kind as u64`. Every number is taken.
+// A kind by its number, `kind as u64`. Every number is taken; no derive makes a case from a number.
 impl From<u64> for Kind {
     ghost from_gives = { λ number kind. kind ≡ kind_of number };
 

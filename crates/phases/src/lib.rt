@@ -1,5 +1,5 @@
 // The blocking calls that wait: their kinds, the phases that they go through, and what a phase tells without the rest of the call.
-// A phase holds the word that it must remember.
+// A phase holds the word that it must remember. It is data and no closure, since C keeps a parked call as numbers.
 #![tactic(auto)]
 
 ghost use Rattle.std.specs.Prelude.{◌≡◌};
@@ -40,7 +40,7 @@ pub enum Opening {
     Drop,
 }
 
-// Why no access follows. A word or room that is missing parks the call, the others end it.
+// Why no access follows. A word or room that is missing parks the call, the others end it. C keeps each by a number of its own.
 #[derive(Clone, Copy, Debug, PartialEq, Eq)]
 pub enum End {
     OutOfWords,
@@ -84,7 +84,7 @@ pub enum Phase {
     Ended(End),
 }
 
-// What an access does to the count.
+// What an access does to the count. `Nothing` is a case like the others: the definitions of a step ask for each by its name.
 #[derive(Clone, Copy, Debug, PartialEq, Eq)]
 pub enum Role {
     // A byte goes out or comes in.

@@ -1,53 +1,75 @@
-// A line of a blocking call that waits.
-use crate::Kept;
-use crate::begun::run_call;
-use leaving::leave;
-use playing::Played;
-use runs::Ran;
-use script::calls::*;
-use script::given::length;
-use script::slots::*;
-use text::Bytes;
-use text::tokens::part;
+// The blocking calls that wait.
+use access::Report;
+use answers::Refusal;
+use arrayvec::ArrayVec;
+use blocking::master::{read, write, write_read};
+use blocking::run::resume;
+use blocking::slave::{slave_read, slave_wait_addressed, slave_write};
+use parked::Parked;
+use script::calls::WaitingCall;
+use text::bytes::{Bytes, MOST};
 
-// What is kept after a run, which leaves the link.
-fn left(kept: Kept, ran: Ran, sent: usize, received: usize) -> Kept {
-    let before = kept.played;
-    let link = before.link;
-    let mut parked = [0u64; 7];
-    let mut six = [0u64; 6];
-    leave(ran, &mut parked, &mut six);
-    Kept {
-        played: Played { link, six },
-        parked,
-        sent,
-        received,
-        used: kept.used,
-    }
+// The call begun last, if one was, as its last run left it, and the two slices that it is lent.
+#[derive(Drop)]
+pub(crate) struct Waiting {
+    parked: Option<Parked>,
+    send: ArrayVec<u8, MOST>,
+    recv: ArrayVec<u8, MOST>,
 }
 
-pub(crate) fn play_waiting(
-    kept: Kept,
-    call: Call,
-    text: &[u8],
-    slots: &Slots,
-    words: &[u32],
-    log: &mut [u32],
-    send: &mut Bytes,
-    recv: &mut Bytes,
-) -> Kept {
-    let parked = kept.parked;
-    let sent = length(call, text, slots, SEND, send, kept.sent);
-    let received = length(call, text, slots, RECV, recv, kept.received);
-    let ran = run_call(
-        &parked,
-        call,
-        (word(slots, ADDRESS_8) % 0x100) as u8,
-        part(send, 0, sent),
-        recv,
-        received,
-        words,
-        log,
-    );
-    left(kept, ran, sent, received)
+impl Waiting {
+    pub(crate) fn new() -> Waiting {
+        Waiting {
+            parked: None,
+            send: ArrayVec::new(),
+            recv: ArrayVec::new(),
+        }
+    }
+
+    // The slice that is filled.
+    pub(crate) fn received(&self) -> &[u8] {
+        self.recv.as_slice()
+    }
+
+    // A call begun, or the parked one resumed. Where none was begun, there is none to resume: 11.
+    pub(crate) fn play(&mut self, call: WaitingCall<'_>, words: &[u32], log: &mut [u32]) -> Report {
+        self.lend(call);
+        let send = self.send.as_slice();
+        let recv = self.recv.as_mut_slice();
+        let ran = match call {
+            WaitingCall::Write { address, .. } => write(address, send, words, log),
+            WaitingCall::Read { address, .. } => read(address, recv, words, log),
+            WaitingCall::WriteRead { address, .. } => write_read(address, send, recv, words, log),
+            WaitingCall::SlaveWrite(_) => slave_write(send, words, log),
+            WaitingCall::SlaveRead(_) => slave_read(recv, words, log),
+            WaitingCall::SlaveWaitAddressed => slave_wait_addressed(words, log),
+            WaitingCall::Resume(_) => match self.parked {
+                Some(parked) => resume(parked, 0, send, recv, words, log),
+                None => return Report::from(Refusal::WrongCall),
+            },
+        };
+        self.parked = Some(ran.parked);
+        ran.report
+    }
+
+    // The slices from now on. A begun call has none but those that its line gives.
+    fn lend(&mut self, call: WaitingCall<'_>) {
+        let (send, recv) = match call {
+            WaitingCall::Write { send, .. } | WaitingCall::SlaveWrite(send) => {
+                (Some(send), Some(Bytes::NONE))
+            }
+            WaitingCall::Read { recv, .. } | WaitingCall::SlaveRead(recv) => {
+                (Some(Bytes::NONE), Some(recv))
+            }
+            WaitingCall::WriteRead { send, recv, .. } => (Some(send), Some(recv)),
+            WaitingCall::SlaveWaitAddressed => (Some(Bytes::NONE), Some(Bytes::NONE)),
+            WaitingCall::Resume(slices) => (slices.send, slices.recv),
+        };
+        if let Some(bytes) = send {
+            bytes.write_to(&mut self.send);
+        }
+        if let Some(bytes) = recv {
+            bytes.write_to(&mut self.recv);
+        }
+    }
 }

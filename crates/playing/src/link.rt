@@ -1,136 +1,116 @@
-// The calls of the non-blocking driver.
+// The calls of the non-blocking driver, and the link after them.
 use access::Report;
 use answers::Answer;
+use arrayvec::ArrayVec;
+use nonblocking::construct::try_i2c1;
 use nonblocking::{Called, Link};
-use script::calls::*;
-use script::parse::bytes_of;
-use script::settings::configuration;
-use script::slots::*;
-use text::Bytes;
-use text::tokens::part;
+use print::lines::Hex;
+use script::calls::{LinkCall, LinkValues};
+use script::settings::Settings;
+use std::fmt;
+use text::bytes::{Bytes, MOST};
+
+// A call with what its line gives.
+pub fn play_link(link: Link, call: LinkCall<'_>, words: &[u32], log: &mut [u32]) -> Called {
+    let mut buffer = ArrayVec::new();
+    match call {
+        LinkCall::Reset => left(Link::new()),
+        LinkCall::Set(values) => left(set(link, values)),
+        LinkCall::New { clock, settings } => construct(link, settings, clock, words, log),
+        LinkCall::MasterWrite { address, bytes } => {
+            link.master_write(address, given(bytes, &mut buffer), words, log)
+        }
+        LinkCall::MasterWriteRead {
+            address,
+            bytes,
+            read_len,
+        } => link.master_write_read(address, given(bytes, &mut buffer), read_len, words, log),
+        LinkCall::MasterRead { address, read_len } => {
+            link.master_read(address, read_len, words, log)
+        }
+        LinkCall::SlaveWrite(bytes) => link.slave_write(given(bytes, &mut buffer), words, log),
+        LinkCall::Check => link.check_isr_flags(words, log),
+        LinkCall::Watchdog => link.execute_watchdog(words, log),
+        LinkCall::Errors => link.get_errors_reset(),
+        LinkCall::MasterData => link.master_get_data(),
+        LinkCall::SlaveData => link.slave_get_data(),
+        LinkCall::Address => link.get_address(),
+        LinkCall::Listen => link.listen(words, log),
+        LinkCall::Unlisten => link.unlisten(words, log),
+        LinkCall::SlaveSbc(sbc_enabled) => link.slave_sbc(sbc_enabled, words, log),
+        LinkCall::SetAddress(address) => link.set_address(address, words, log),
+    }
+}
+
+// The bytes that a line gives.
+fn given<'a>(bytes: Bytes<'_>, buffer: &'a mut ArrayVec<u8, MOST>) -> &'a [u8] {
+    bytes.write_to(buffer);
+    buffer.as_slice()
+}
 
 // No call of the driver: no access, and the answer 0.
-fn put(link: Link) -> Called {
+fn left(link: Link) -> Called {
     Called {
         link,
         report: Report::without_access(Answer::Done),
     }
 }
 
-fn value_or(slots: &Slots, slot: usize, old: u64) -> u64 {
-    if given(slots, slot) == 1 {
-        number(slots, slot)
-    } else {
-        old
-    }
-}
-
-// The bytes to the front of a link's data.
-fn copy(bytes: &[u8], data: &mut [u8; 255]) {
-    let mut i: usize = 0;
-    while i < 255 {
-        if bytes.len() <= i {
-            return;
-        }
-        data[i] = bytes[i];
-        i += 1;
-    }
-}
-
 // `nb set`
-fn set(link: Link, slots: &Slots, bytes: &[u8]) -> Link {
+fn set(link: Link, values: LinkValues<'_>) -> Link {
     let mut data = link.data;
-    copy(bytes, &mut data);
+    if let Some(bytes) = values.data {
+        let mut buffer = ArrayVec::new();
+        for (place, byte) in data.iter_mut().zip(given(bytes, &mut buffer)) {
+            *place = *byte;
+        }
+    }
     Link {
-        address: (value_or(slots, ADDRESS, link.address as u64) % 0x1_0000) as u16,
-        watchdog: (value_or(slots, WATCHDOG, link.watchdog as u64) % 0x1_0000) as u16,
-        index: value_or(slots, INDEX, link.index as u64) as usize,
-        length: value_or(slots, COUNT, link.length as u64) as usize,
-        errors: (value_or(slots, ERRORS, link.errors as u64) % 0x1_0000_0000) as u32,
-        length_write_read: value_or(slots, SECOND_HALF, link.length_write_read as u64) as usize,
+        address: values.address.unwrap_or(link.address),
+        watchdog: values.watchdog.unwrap_or(link.watchdog),
+        index: values.index.unwrap_or(link.index),
+        length: values.length.unwrap_or(link.length),
+        errors: values.errors.unwrap_or(link.errors),
+        length_write_read: values.length_write_read.unwrap_or(link.length_write_read),
         data,
     }
 }
 
-// `nb new`: a refusal, which logs nothing, leaves the link.
-fn construct(link: Link, slots: &Slots, words: &[u32], log: &mut [u32]) -> Called {
-    let called = Link::i2c1(configuration(slots), word(slots, CLOCK), words, log);
-    let report = called.report;
-    if report.logged == 0 {
-        return Called { link, report };
-    }
-    called
-}
-
-// The calls that make no access, and `nb reset`.
-fn unread(link: Link, call: Call) -> Called {
-    match call {
-        NB_ERRORS => link.get_errors_reset(),
-        NB_DATA_M => link.master_get_data(),
-        NB_DATA_S => link.slave_get_data(),
-        NB_ADDR_M | NB_ADDR_S => link.get_address(),
-        _ => put(Link::new()),
+// `nb new`: a refusal leaves the link.
+fn construct(link: Link, settings: Settings, clock: u32, words: &[u32], log: &mut [u32]) -> Called {
+    let tried = match settings.config() {
+        Ok(config) => try_i2c1(config, clock, words, log),
+        Err(refusal) => Err(refusal),
+    };
+    match tried {
+        Ok(report) => Called {
+            link: Link::new(),
+            report,
+        },
+        Err(refusal) => Called {
+            link,
+            report: Report::from(refusal),
+        },
     }
 }
 
-// The calls that take no more than the words.
-fn simple(link: Link, call: Call, words: &[u32], log: &mut [u32]) -> Called {
-    match call {
-        NB_CHECK => link.check_isr_flags(words, log),
-        NB_WATCHDOG => link.execute_watchdog(words, log),
-        NB_LISTEN => link.listen(words, log),
-        NB_UNLISTEN => link.unlisten(words, log),
-        _ => unread(link, call),
+// A link as it is kept.
+#[derive(Clone, Copy, Debug, PartialEq, Eq)]
+pub struct Kept<'a>(pub &'a Link);
+
+impl fmt::Display for Kept<'_> {
+    fn fmt<W: fmt::Write>(&self, f: &mut fmt::Formatter<W>) -> fmt::Result {
+        let Kept(link) = *self;
+        write!(
+            f,
+            "S {:04X} {} {} {} {} {} {}",
+            link.address,
+            link.watchdog,
+            link.index,
+            link.length,
+            link.errors,
+            link.length_write_read,
+            Hex(&link.data),
+        )
     }
-}
-
-// The calls that take no bytes.
-fn without_bytes(link: Link, call: Call, slots: &Slots, words: &[u32], log: &mut [u32]) -> Called {
-    match call {
-        NB_NEW => construct(link, slots, words, log),
-        NB_SBC => link.slave_sbc(word(slots, SBC) != 0, words, log),
-        _ => simple(link, call, words, log),
-    }
-}
-
-// A call with the bytes that its line gives.
-fn link_call(
-    link: Link,
-    call: Call,
-    slots: &Slots,
-    bytes: &[u8],
-    words: &[u32],
-    log: &mut [u32],
-) -> Called {
-    let address = (word(slots, ADDRESS_16) % 0x1_0000) as u16;
-    let length = (word(slots, LENGTH) % 0x100) as u8;
-    match call {
-        NB_SET => put(set(link, slots, bytes)),
-        NB_MASTER_WRITE => link.master_write(address, bytes, words, log),
-        NB_MASTER_WRITE_READ => link.master_write_read(address, bytes, length, words, log),
-        NB_MASTER_READ => link.master_read(address, length, words, log),
-        NB_SLAVE_WRITE => link.slave_write(bytes, words, log),
-        NB_SET_ADDRESS => link.set_address(address, words, log),
-        _ => without_bytes(link, call, slots, words, log),
-    }
-}
-
-// The bytes that a line gives.
-fn first(room: &Bytes, count: usize) -> &[u8] {
-    part(room, 0, count)
-}
-
-// A call with what its line gives.
-pub(crate) fn play_link(
-    link: Link,
-    call: Call,
-    text: &[u8],
-    slots: &Slots,
-    words: &[u32],
-    log: &mut [u32],
-) -> Called {
-    let mut room = [0u8; 16384];
-    let slot = if given(slots, DATA) == 1 { DATA } else { SEND };
-    let count = bytes_of(text, slots, slot, &mut room);
-    link_call(link, call, slots, first(&room, count), words, log)
 }

@@ -1,31 +1,35 @@
 // The calls of the configuration.
+use answers::Refusal;
 use config::Config;
-use print::lines::{TOLD_BAD_LINE, TOLD_PERIOD, TOLD_WORD};
-use script::calls::*;
-use script::settings::configuration;
-use script::slots::*;
+use script::calls::ConfigCall;
+use std::fmt;
 
-fn timing(config: Config, clock: u32) -> [u64; 6] {
-    match config.timing_bits(clock) {
-        Ok(bits) => [TOLD_WORD, 0, 0, bits as u64, 0, 0],
-        Err(_) => [7, 0, 0, 0, 0, 0],
+// What such a call tells: a timing word or the setting of the filter, or a period.
+#[derive(Clone, Copy, Debug, PartialEq, Eq)]
+pub enum Told {
+    Word(u32),
+    Period(u32),
+}
+
+// A call of the configuration. Of the setter it is the setting that it leaves.
+pub fn config_call(call: ConfigCall) -> Result<Told, Refusal> {
+    match call {
+        ConfigCall::Timing { clock, settings } => {
+            settings.config()?.timing_bits(clock).map(Told::Word)
+        }
+        ConfigCall::Filter(cycles) => {
+            let config = Config::new(0).enable_digital_filter(cycles)?;
+            Ok(Told::Word(config.digital_filter as u32))
+        }
+        ConfigCall::Period(word) => Ok(Told::Period(Config::scl_period(word))),
     }
 }
 
-// A call of the configuration; what is no call at all is told as that. Of the setter it is the setting that it leaves.
-pub(crate) fn config_call(call: Call, slots: &Slots) -> [u64; 6] {
-    let config = configuration(slots);
-    match call {
-        CFG_TIMING => timing(config, word(slots, CLOCK)),
-        CFG_FILTER => [TOLD_WORD, 0, 0, config.digital_filter as u64, 0, 0],
-        CFG_PERIOD => [
-            TOLD_PERIOD,
-            0,
-            0,
-            Config::scl_period(word(slots, PERIOD)) as u64,
-            0,
-            0,
-        ],
-        _ => [TOLD_BAD_LINE, 0, 0, 0, 0, 0],
+impl fmt::Display for Told {
+    fn fmt<W: fmt::Write>(&self, f: &mut fmt::Formatter<W>) -> fmt::Result {
+        match *self {
+            Told::Word(word) => write!(f, "V {word:08X}"),
+            Told::Period(period) => write!(f, "P {period}"),
+        }
     }
 }

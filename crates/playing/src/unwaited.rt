@@ -1,21 +1,20 @@
 // The blocking calls that never wait.
 use access::Report;
-use flags::Event;
 use never_wait::construct::i2c1;
 use never_wait::interrupts::{clear_irq, listen, unlisten};
 use never_wait::slave::{slave_addressed, slave_sbc};
-use script::calls::*;
-use script::settings::configuration;
-use script::slots::*;
+use script::calls::UnwaitedCall;
 
-pub(crate) fn unwaited_call(call: Call, slots: &Slots, words: &[u32], log: &mut [u32]) -> Report {
-    let event = Event::from((word(slots, EVENT) % 0x100) as u8);
+pub fn play_unwaited(call: UnwaitedCall, words: &[u32], log: &mut [u32]) -> Report {
     match call {
-        BL_NEW => i2c1(configuration(slots), word(slots, CLOCK), words, log),
-        BL_SLAVE_ADDRESSED => slave_addressed(words, log),
-        BL_SBC => slave_sbc(word(slots, SBC) != 0, words, log),
-        BL_LISTEN => listen(event, words, log),
-        BL_UNLISTEN => unlisten(event, words, log),
-        _ => clear_irq(event, log),
+        UnwaitedCall::New { clock, settings } => match settings.config() {
+            Ok(config) => i2c1(config, clock, words, log),
+            Err(refusal) => Report::from(refusal),
+        },
+        UnwaitedCall::SlaveAddressed => slave_addressed(words, log),
+        UnwaitedCall::SlaveSbc(sbc_enabled) => slave_sbc(sbc_enabled, words, log),
+        UnwaitedCall::Listen(event) => listen(event, words, log),
+        UnwaitedCall::Unlisten(event) => unlisten(event, words, log),
+        UnwaitedCall::ClearIrq(event) => clear_irq(event, log),
     }
 }

@@ -1,6 +1,5 @@
-// What the programs print: a short line is made by value, and added to a lent buffer; bytes go there as hex pairs.
+// What the programs print: the lines of a call, and the buffer that they go to.
 #![tactic(auto)]
 
-pub mod buffer;
-pub mod line;
 pub mod lines;
+pub mod output;

@@ -1,105 +1,81 @@
-// Accesses and answers as lines.
-use crate::buffer::{Buffer, NO_BYTES, add, add_bytes};
-use crate::line::*;
-use std::io::Print;
+// The lines of a call: its accesses, its answer, and bytes.
+ghost use Rattle.std.specs.Prelude.{◌≤◌, length};
 
-fn word_at(log: &[u32], place: usize) -> u32 {
-    if place < log.len() {
-        return log[place];
-    }
-    0
-}
+use access::Report;
+use answers::Answer;
+use std::fmt;
 
-// An access: R or W, the offset, the word.
-fn access(number: u32, word: u32) -> Line {
-    let kind = if number < 0x100 { b'R' } else { b'W' };
-    let mut line = begin(kind);
-    line = line.number(number as u64, HEX, TWO);
-    line = line.number(word as u64, HEX, EIGHT);
-    line.byte(b'\n')
-}
+// Bytes as hex pairs, `-` where there are none.
+#[derive(Clone, Copy, Debug, PartialEq, Eq)]
+pub struct Hex<'a>(pub &'a [u8]);
 
-// The accesses of a log's first places.
-fn accesses(rt: &impl Print, out: &mut Buffer, used: usize, log: &[u32], logged: usize) -> usize {
-    let mut used = used;
-    let mut i: usize = 0;
-    while i < logged / 2 {
-        used = add(
-            rt,
-            out,
-            used,
-            access(word_at(log, 2 * i), word_at(log, 2 * i + 1)),
-        );
-        i += 1;
-    }
-    used
-}
-
-// The letters of what is told beside answers: a word, a period, and that a line is no call.
-pub const TOLD_WORD: u64 = 0x56;
-
-pub const TOLD_PERIOD: u64 = 0x50;
-
-pub const TOLD_BAD_LINE: u64 = 0x3F;
-
-// The line of what is told, by its number or its letter and the first two of its values.
-fn told(number: u64, first: u64, second: u64) -> Line {
-    let mut line = begin(b'=');
-    match number {
-        5 => {
-            line = line.number(5, TEN, ALL);
-            line.number(first, TEN, ALL)
+impl fmt::Display for Hex<'_> {
+    fn fmt<W: fmt::Write>(&self, f: &mut fmt::Formatter<W>) -> fmt::Result {
+        if self.0.is_empty() {
+            return f.write_str("-");
         }
-        0x41 | 0x44 => {
-            line = line.number(number, LETTERS, ONE);
-            line = line.number(first, HEX, FOUR);
-            line.number(second, TEN, ALL)
+        // In parts: with `{:02X}` for each byte a script is played at a third of the speed.
+        let (parts, rest) = self.0.as_chunks::<32>();
+        for part in parts {
+            write_hex(f, part)?;
         }
-        0x45 | TOLD_PERIOD => {
-            line = line.number(number, LETTERS, ONE);
-            line.number(first, TEN, ALL)
-        }
-        0x47 => line.number(number, LETTERS, ONE),
-        0x4E => {
-            line = line.number(number, LETTERS, ONE);
-            line.number(first, HEX, FOUR)
-        }
-        TOLD_WORD => {
-            line = line.number(number, LETTERS, ONE);
-            line.number(first, HEX, EIGHT)
-        }
-        // `bad line`
-        TOLD_BAD_LINE => {
-            line = begin(b'?');
-            line.number(0x6261_6420_6C69_6E65, LETTERS, 0x100_0000_0000_0000)
-        }
-        _ => line.number(number, TEN, ALL),
+        write_hex(f, rest)
     }
 }
 
-// How many bytes follow.
-fn shown(number: u64, first: u64, third: u64) -> usize {
-    match number {
-        0x44 => third as usize,
-        0x47 => first as usize,
-        _ => NO_BYTES,
+// So many bytes as hex pairs.
+fn write_hex<W: fmt::Write>(f: &mut fmt::Formatter<W>, bytes: &[u8]) -> fmt::Result
+    requires { length bytes.now ≤ 32 }
+{
+    let mut digits = [0u8; 64];
+    let digits = &mut digits[..2 * bytes.len()];
+    let _ = hex::encode_to_slice(bytes, digits);
+    digits.make_ascii_uppercase();
+    f.write_str(str::from_utf8(digits).unwrap_or_default())
+}
+
+// A call's report, over the log that it wrote: its accesses, and its answer. The bytes that an answer shows are the first ones of
+// a link's data.
+#[derive(Clone, Copy, Debug, PartialEq, Eq)]
+pub struct Reported<'a> {
+    pub report: Report,
+    pub log: &'a [u32],
+    pub data: &'a [u8],
+}
+
+impl Reported<'_> {
+    // So many bytes.
+    fn shown(&self, count: usize) -> Hex<'_> {
+        Hex(self.data.get(..count).unwrap_or(self.data))
     }
 }
 
-// What a call comes to: its accesses, and its answer by six numbers: its own number or letter, the words taken, the places logged, and its
-// values. The bytes that it shows are the first ones of a link's data.
-pub fn add_call(
-    rt: &impl Print,
-    out: &mut Buffer,
-    used: usize,
-    log: &[u32],
-    six: [u64; 6],
-    data: [u8; 255],
-) -> usize {
-    let number = six[0];
-    let first = six[3];
-    let count = shown(number, first, six[5]);
-    let line = told(number, first, six[4]);
-    let used = accesses(rt, out, used, log, six[2] as usize);
-    add_bytes(rt, out, used, line, &data, count)
+impl fmt::Display for Reported<'_> {
+    fn fmt<W: fmt::Write>(&self, f: &mut fmt::Formatter<W>) -> fmt::Result {
+        let (accesses, _) = self.log.as_chunks::<2>();
+        for &[number, word] in accesses.iter().take(self.report.logged / 2) {
+            let kind = if number < 0x100 { 'R' } else { 'W' };
+            writeln!(f, "{kind} {:02X} {word:08X}", number % 0x100)?;
+        }
+        match self.report.answer {
+            Answer::IncorrectFrameSize(count) => writeln!(f, "= 5 {count}"),
+            Answer::Data {
+                address,
+                direction,
+                count,
+            } => writeln!(
+                f,
+                "= D {address:04X} {} {}",
+                direction as u8,
+                self.shown(count)
+            ),
+            Answer::Addressed { address, direction } => {
+                writeln!(f, "= A {address:04X} {}", direction as u8)
+            }
+            Answer::Errors(count) => writeln!(f, "= E {count}"),
+            Answer::Address(address) => writeln!(f, "= N {address:04X}"),
+            Answer::Bytes(count) => writeln!(f, "= G {}", self.shown(count)),
+            answer => writeln!(f, "= {}", answer.number()),
+        }
+    }
 }

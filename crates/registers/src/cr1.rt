@@ -52,7 +52,7 @@ impl Cr1 {
         Cr1::ANFOFF.switch(digital, !analog_filter)
     }
 
-    // All interrupts of the non-blocking driver: `listen` and `unlisten`.
+    // All interrupts of the non-blocking driver: `listen` and `unlisten`. One line for each: a fold over a list of the seven says no more.
     #[tactic(auto, unfolding(fields::specs::Words::interrupts))]
     pub fn interrupts(cr1: u32, on: bool) -> u32
         ensures { result ≡ interrupts cr1 on }

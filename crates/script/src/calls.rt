@@ -1,94 +1,107 @@
-// The calls of a script, by number: of each driver they are in the order of their names in `call_of`.
-use text::tokens::{NO_NAME, which};
+// The calls of a script, each with what its line gives.
+use crate::settings::Settings;
+use flags::Event;
+use text::bytes::Bytes;
 
-pub type Call = usize;
+#[derive(Clone, Copy, Debug, PartialEq, Eq)]
+pub enum Call<'a> {
+    Link(LinkCall<'a>),
+    Waiting(WaitingCall<'a>),
+    Unwaited(UnwaitedCall),
+    Config(ConfigCall),
+}
 
-pub const NB_RESET: Call = 0;
+// The calls of the non-blocking driver, and what is done to its link.
+#[derive(Clone, Copy, Debug, PartialEq, Eq)]
+pub enum LinkCall<'a> {
+    Reset,
+    Set(LinkValues<'a>),
+    New {
+        clock: u32,
+        settings: Settings,
+    },
+    MasterWrite {
+        address: u16,
+        bytes: Bytes<'a>,
+    },
+    MasterWriteRead {
+        address: u16,
+        bytes: Bytes<'a>,
+        read_len: u8,
+    },
+    MasterRead {
+        address: u16,
+        read_len: u8,
+    },
+    SlaveWrite(Bytes<'a>),
+    Check,
+    Watchdog,
+    Errors,
+    MasterData,
+    SlaveData,
+    Address,
+    Listen,
+    Unlisten,
+    SlaveSbc(bool),
+    SetAddress(u16),
+}
 
-pub const NB_SET: Call = 1;
+// The values that `nb set` puts into the link.
+#[derive(Clone, Copy, Debug, Default, PartialEq, Eq)]
+pub struct LinkValues<'a> {
+    pub address: Option<u16>,
+    pub watchdog: Option<u16>,
+    pub index: Option<usize>,
+    pub length: Option<usize>,
+    pub errors: Option<u32>,
+    pub length_write_read: Option<usize>,
+    pub data: Option<Bytes<'a>>,
+}
 
-pub const NB_NEW: Call = 2;
+// The calls of the blocking driver that wait. A resumed one keeps the slices that the line does not give.
+#[derive(Clone, Copy, Debug, PartialEq, Eq)]
+pub enum WaitingCall<'a> {
+    Write {
+        address: u8,
+        send: Bytes<'a>,
+    },
+    Read {
+        address: u8,
+        recv: Bytes<'a>,
+    },
+    WriteRead {
+        address: u8,
+        send: Bytes<'a>,
+        recv: Bytes<'a>,
+    },
+    SlaveWrite(Bytes<'a>),
+    SlaveRead(Bytes<'a>),
+    SlaveWaitAddressed,
+    Resume(Slices<'a>),
+}
 
-pub const NB_MASTER_WRITE: Call = 3;
+// The slices that a line gives for a call that is resumed.
+#[derive(Clone, Copy, Debug, Default, PartialEq, Eq)]
+pub struct Slices<'a> {
+    pub send: Option<Bytes<'a>>,
+    pub recv: Option<Bytes<'a>>,
+}
 
-pub const NB_MASTER_WRITE_READ: Call = 4;
+// The calls of the blocking driver that never wait.
+#[derive(Clone, Copy, Debug, PartialEq, Eq)]
+pub enum UnwaitedCall {
+    New { clock: u32, settings: Settings },
+    SlaveAddressed,
+    SlaveSbc(bool),
+    Listen(Event),
+    Unlisten(Event),
+    ClearIrq(Event),
+}
 
-pub const NB_MASTER_READ: Call = 5;
-
-pub const NB_SLAVE_WRITE: Call = 6;
-
-pub const NB_CHECK: Call = 7;
-
-pub const NB_WATCHDOG: Call = 8;
-
-pub const NB_ERRORS: Call = 9;
-
-pub const NB_DATA_M: Call = 10;
-
-pub const NB_DATA_S: Call = 11;
-
-pub const NB_ADDR_M: Call = 12;
-
-pub const NB_ADDR_S: Call = 13;
-
-pub const NB_LISTEN: Call = 14;
-
-pub const NB_UNLISTEN: Call = 15;
-
-pub const NB_SBC: Call = 16;
-
-pub const NB_SET_ADDRESS: Call = 17;
-
-// The blocking calls that wait, up to `BL_RESUME`, and those that never do.
-pub const BL_WRITE: Call = 20;
-
-pub const BL_READ: Call = 21;
-
-pub const BL_WRITE_READ: Call = 22;
-
-pub const BL_SLAVE_WRITE: Call = 23;
-
-pub const BL_SLAVE_READ: Call = 24;
-
-pub const BL_SLAVE_WAIT_ADDRESSED: Call = 25;
-
-pub const BL_RESUME: Call = 26;
-
-pub const BL_NEW: Call = 27;
-
-pub const BL_SLAVE_ADDRESSED: Call = 28;
-
-pub const BL_SBC: Call = 29;
-
-pub const BL_LISTEN: Call = 30;
-
-pub const BL_UNLISTEN: Call = 31;
-
-pub const BL_CLEAR_IRQ: Call = 32;
-
-pub const CFG_TIMING: Call = 40;
-
-pub const CFG_FILTER: Call = 41;
-
-pub const CFG_PERIOD: Call = 42;
-
-// A line that is no call.
-pub const BAD_LINE: Call = NO_NAME;
-
-// The call that a line's first two tokens name.
-pub(crate) fn call_of(driver: &[u8], token: &[u8]) -> Call {
-    match which(driver, b"nb bl cfg ", 0) {
-        0 => which(
-            token,
-            b"reset set new master_write master_write_read master_read slave_write check watchdog errors data_m data_s addr_m addr_s listen unlisten sbc set_address ",
-            NB_RESET,
-        ),
-        1 => which(
-            token,
-            b"write read write_read slave_write slave_read slave_wait_addressed resume new slave_addressed sbc listen unlisten clear_irq ",
-            BL_WRITE,
-        ),
-        2 => which(token, b"timing filter period ", CFG_TIMING),
-        _ => BAD_LINE,
-    }
+// The calls of the configuration.
+#[derive(Clone, Copy, Debug, PartialEq, Eq)]
+pub enum ConfigCall {
+    Timing { clock: u32, settings: Settings },
+    Filter(u8),
+    Period(u32),
 }

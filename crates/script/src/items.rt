@@ -1,163 +1,125 @@
-// The values of a call: its arguments by their place, and the options after them.
-use crate::calls::*;
-use crate::slots::*;
-use text::bytes::bytes;
-use text::numbers::{masked, number};
-use text::tokens::{find, is_byte, part, which};
-use text::{Number, OVER};
+// The tokens of a call, from the driver's name to its last option.
+use crate::calls::{Call, ConfigCall, LinkCall, UnwaitedCall, WaitingCall};
+use crate::options::{link_values, settings, slices};
+use flags::Event;
+use text::bytes::{Bytes, MOST};
+use text::numbers::{decimal, hex};
 
-// The slot of a call's argument at a place.
-fn argument(call: Call, place: usize) -> usize {
-    let slots = match call {
-        NB_MASTER_WRITE => [ADDRESS_16, SEND, NONE],
-        NB_MASTER_WRITE_READ => [ADDRESS_16, SEND, LENGTH],
-        NB_MASTER_READ => [ADDRESS_16, LENGTH, NONE],
-        NB_SET_ADDRESS => [ADDRESS_16, NONE, NONE],
-        BL_WRITE => [ADDRESS_8, SEND, NONE],
-        BL_READ => [ADDRESS_8, RECV, NONE],
-        BL_WRITE_READ => [ADDRESS_8, SEND, RECV],
-        NB_SLAVE_WRITE | BL_SLAVE_WRITE => [SEND, NONE, NONE],
-        BL_SLAVE_READ => [RECV, NONE, NONE],
-        NB_SBC | BL_SBC => [SBC, NONE, NONE],
-        BL_LISTEN | BL_UNLISTEN | BL_CLEAR_IRQ => [EVENT, NONE, NONE],
-        NB_NEW | BL_NEW | CFG_TIMING => [CLOCK, NONE, NONE],
-        CFG_FILTER => [FILTER, NONE, NONE],
-        CFG_PERIOD => [PERIOD, NONE, NONE],
-        _ => [NONE, NONE, NONE],
-    };
-    if place < 3 { slots[place] } else { NONE }
+pub(crate) fn call<'a>(items: &[&'a str]) -> Option<Call<'a>> {
+    Some(match items {
+        ["nb", items @ ..] => Call::Link(link_call(items)?),
+        ["bl", items @ ..] => match waiting_call(items) {
+            Some(call) => Call::Waiting(call),
+            None => Call::Unwaited(unwaited_call(items)?),
+        },
+        ["cfg", items @ ..] => Call::Config(config_call(items)?),
+        _ => return None,
+    })
 }
 
-fn among(slot: usize, first: usize, last: usize) -> usize {
-    if first <= slot {
-        if slot <= last {
-            return slot;
-        }
-    }
-    NONE
+fn link_call<'a>(items: &[&'a str]) -> Option<LinkCall<'a>> {
+    Some(match items {
+        ["reset"] => LinkCall::Reset,
+        ["set", options @ ..] => LinkCall::Set(link_values(options)?),
+        ["new", clock, options @ ..] => LinkCall::New {
+            clock: decimal(clock)?,
+            settings: settings(options)?,
+        },
+        ["master_write", address, bytes] => LinkCall::MasterWrite {
+            address: hex(address)?,
+            bytes: slice(bytes)?,
+        },
+        ["master_write_read", address, bytes, read_len] => LinkCall::MasterWriteRead {
+            address: hex(address)?,
+            bytes: slice(bytes)?,
+            read_len: decimal(read_len)?,
+        },
+        ["master_read", address, read_len] => LinkCall::MasterRead {
+            address: hex(address)?,
+            read_len: decimal(read_len)?,
+        },
+        ["slave_write", bytes] => LinkCall::SlaveWrite(slice(bytes)?),
+        ["check"] => LinkCall::Check,
+        ["watchdog"] => LinkCall::Watchdog,
+        ["errors"] => LinkCall::Errors,
+        ["data_m"] => LinkCall::MasterData,
+        ["data_s"] => LinkCall::SlaveData,
+        ["addr_m" | "addr_s"] => LinkCall::Address,
+        ["listen"] => LinkCall::Listen,
+        ["unlisten"] => LinkCall::Unlisten,
+        ["sbc", switch] => LinkCall::SlaveSbc(is_on(switch)?),
+        ["set_address", address] => LinkCall::SetAddress(hex(address)?),
+        _ => return None,
+    })
 }
 
-// The slot of an option, where the call has it.
-fn option(call: Call, key: &[u8]) -> usize {
-    let slot = which(
-        key,
-        b"log= addr= wd= idx= len= err= second= data= send= recv= speed= timing= analog= filter= dnf= own7= own10= own7raw= own2= ",
-        LOG,
-    );
-    if slot == LOG {
-        return LOG;
-    }
-    match call {
-        NB_SET => among(slot, ADDRESS, DATA),
-        BL_RESUME => among(slot, SEND, RECV),
-        NB_NEW | BL_NEW | CFG_TIMING => among(slot, SPEED, OWN_2),
-        _ => NONE,
-    }
+fn waiting_call<'a>(items: &[&'a str]) -> Option<WaitingCall<'a>> {
+    Some(match items {
+        ["write", address, send] => WaitingCall::Write {
+            address: hex(address)?,
+            send: slice(send)?,
+        },
+        ["read", address, recv] => WaitingCall::Read {
+            address: hex(address)?,
+            recv: slice(recv)?,
+        },
+        ["write_read", address, send, recv] => WaitingCall::WriteRead {
+            address: hex(address)?,
+            send: slice(send)?,
+            recv: slice(recv)?,
+        },
+        ["slave_write", send] => WaitingCall::SlaveWrite(slice(send)?),
+        ["slave_read", recv] => WaitingCall::SlaveRead(slice(recv)?),
+        ["slave_wait_addressed"] => WaitingCall::SlaveWaitAddressed,
+        ["resume", options @ ..] => WaitingCall::Resume(slices(options)?),
+        _ => return None,
+    })
 }
 
-// The slot of what is asked for at a place: an argument, which has no key, or an option where no argument is left.
-fn asked(call: Call, place: usize, key: &[u8]) -> usize {
-    let slot = argument(call, place);
-    if key.len() == 0 {
-        return slot;
-    }
-    if slot == NONE {
-        return option(call, key);
-    }
-    NONE
+fn unwaited_call(items: &[&str]) -> Option<UnwaitedCall> {
+    Some(match items {
+        ["new", clock, options @ ..] => UnwaitedCall::New {
+            clock: decimal(clock)?,
+            settings: settings(options)?,
+        },
+        ["slave_addressed"] => UnwaitedCall::SlaveAddressed,
+        ["sbc", switch] => UnwaitedCall::SlaveSbc(is_on(switch)?),
+        ["listen", token] => UnwaitedCall::Listen(event(token)?),
+        ["unlisten", token] => UnwaitedCall::Unlisten(event(token)?),
+        ["clear_irq", token] => UnwaitedCall::ClearIrq(event(token)?),
+        _ => return None,
+    })
 }
 
-// 0 for addr and 1 for rxne.
-fn event(token: &[u8]) -> Number {
-    let event = which(token, b"addr rxne ", 0);
-    if event < 2 {
-        return Number::Value(event as u64);
-    }
-    Number::None
+fn config_call(items: &[&str]) -> Option<ConfigCall> {
+    Some(match items {
+        ["timing", clock, options @ ..] => ConfigCall::Timing {
+            clock: decimal(clock)?,
+            settings: settings(options)?,
+        },
+        ["filter", cycles] => ConfigCall::Filter(decimal(cycles)?),
+        ["period", word] => ConfigCall::Period(hex(word)?),
+        _ => return None,
+    })
 }
 
-// The place of BYTES on the line, if they are bytes: they are read again where they are wanted.
-fn placed(slot: usize, token: &[u8], place: usize) -> Number {
-    let mut out = [0u8; 16384];
-    if bytes(token, most(slot), &mut out) == OVER {
-        return Number::None;
-    }
-    Number::Value(place as u64)
+// A slice that a call is lent: it may be too long for the call.
+fn slice(token: &str) -> Option<Bytes<'_>> {
+    Bytes::of(token, MOST)
 }
 
-// The number that a token is for a slot.
-fn read(slot: usize, token: &[u8], place: usize) -> Number {
-    match slot {
-        OWN_2 => masked(token),
-        EVENT => event(token),
-        DATA | SEND | RECV => placed(slot, token, place),
-        LOG | WATCHDOG => number(token, 10, 0xFFFF),
-        INDEX | COUNT | SECOND_HALF => number(token, 10, 0xFFFF_FFFF_FFFF_FFFF),
-        ERRORS | SPEED | CLOCK => number(token, 10, 0xFFFF_FFFF),
-        FILTER | DNF | LENGTH => number(token, 10, 0xFF),
-        OWN_7 | ADDRESS_8 => number(token, 16, 0xFF),
-        TIMING | PERIOD => number(token, 16, 0xFFFF_FFFF),
-        ANALOG => number(token, 2, 0),
-        SBC => number(token, 2, 1),
-        NONE => Number::None,
-        _ => number(token, 16, 0xFFFF),
-    }
-}
-
-// Where a token's value begins: past the first `=`, which ends the key.
-fn value_start(line: &[u8], start: usize, end: usize) -> usize {
-    let equals = find(line, b'=', false, start);
-    if equals < end { equals + 1 } else { start }
-}
-
-// Reads a token as what is asked for at its place, and keeps its number.
-fn keep(
-    call: Call,
-    place: usize,
-    line: &[u8],
-    start: usize,
-    end: usize,
-    slots: &mut Slots,
-) -> bool {
-    let value = value_start(line, start, end);
-    let slot = asked(call, place, part(line, start, value));
-    let Number::Value(number) = read(slot, part(line, value, end), value) else {
-        return false;
-    };
-    put(slots, slot, number)
-}
-
-// Whether a call ends at this token: at the line's end or at `|`.
-fn is_end(token: &[u8]) -> bool {
-    if token.len() == 0 {
-        return true;
-    }
-    is_byte(token, b'|')
-}
-
-// Where a call ends, if it lacks no argument.
-fn call_end(call: Call, place: usize, at: usize) -> usize {
-    if argument(call, place) == NONE {
-        at
-    } else {
-        OVER
+fn is_on(token: &str) -> Option<bool> {
+    match token {
+        "0" => Some(false),
+        "1" => Some(true),
+        _ => None,
     }
 }
 
-// Keeps all values of a call. Answers where it ends, past `|` or at the line's end. No call has as many values as the loop has turns.
-pub(crate) fn keep_items(call: Call, line: &[u8], from: usize, slots: &mut Slots) -> usize {
-    let mut at = from;
-    let mut place: usize = 0;
-    while place < 16 {
-        let start = find(line, b' ', true, at);
-        at = find(line, b' ', false, start);
-        if is_end(part(line, start, at)) {
-            return call_end(call, place, at);
-        }
-        if !keep(call, place, line, start, at, slots) {
-            return OVER;
-        }
-        place += 1;
+fn event(token: &str) -> Option<Event> {
+    match token {
+        "addr" => Some(Event::AddressMatch),
+        "rxne" => Some(Event::Rxne),
+        _ => None,
     }
-    OVER
 }

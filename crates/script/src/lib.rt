@@ -1,12 +1,8 @@
-// Scripts: the call that a line is, with its numbers, its words and its configuration.
+// Scripts: the call that a line is, with what the line gives for it.
 #![tactic(auto)]
 
 pub mod calls;
-pub mod given;
 mod items;
+mod options;
 pub mod parse;
 pub mod settings;
-pub mod slots;
-
-// The words of a line, lent.
-pub type Words = [u32; 4096];

@@ -1,50 +1,59 @@
 // The configuration that a line gives.
-use crate::calls::{BAD_LINE, Call};
-use crate::slots::*;
-use answers::{Answer, Refusal};
-use config::Config;
-use flat::configured::config_of;
+use answers::Refusal;
+use config::{Config, SlaveAddressMask};
 
-// The configuration but for a filter that goes through the setter. At most one of the three first addresses is given.
-fn plain(slots: &Slots) -> Config {
-    let second = word(slots, OWN_2);
-    let own = word(slots, OWN_7) % 0x1_0000
-        + word(slots, OWN_10) % 0x1_0000
-        + word(slots, OWN_7_RAW) % 0x1_0000;
-    config_of(&[
-        given(slots, SPEED),
-        word(slots, SPEED),
-        given(slots, TIMING),
-        word(slots, TIMING),
-        1 - given(slots, ANALOG),
-        word(slots, DNF),
-        own,
-        given(slots, OWN_10),
-        second / 8,
-        second % 8,
-    ])
+// The first own address, in seven-bit mode also one of more bits.
+#[derive(Clone, Copy, Debug, PartialEq, Eq)]
+pub enum OwnAddress {
+    Seven(u16),
+    Ten(u16),
 }
 
-// The configuration, where its filter's setter takes the filter.
-fn filtered(slots: &Slots) -> Result<Config, Refusal> {
-    let config = plain(slots);
-    if given(slots, FILTER) == 1 {
-        return config.enable_digital_filter((word(slots, FILTER) % 0x100) as u8);
-    }
-    Ok(config)
+// The digital filter, by its setter or as the field itself.
+#[derive(Clone, Copy, Debug, PartialEq, Eq)]
+pub enum Filter {
+    Setter(u8),
+    Field(u8),
 }
 
-// The number of that answer: 0, or that of a refusal. A line that is no call may have any filter.
-pub fn refusal(call: Call, slots: &Slots) -> u64 {
-    if call == BAD_LINE {
-        return 0;
-    }
-    match filtered(slots) {
-        Ok(_) => 0,
-        Err(refusal) => Answer::from(refusal).number() as u64,
-    }
+#[derive(Clone, Copy, Debug, Default, PartialEq, Eq)]
+pub struct Settings {
+    pub speed: Option<u32>,
+    pub timing: Option<u32>,
+    pub analog_filter: Option<bool>,
+    pub digital_filter: Option<Filter>,
+    pub slave_address_1: Option<OwnAddress>,
+    pub slave_address_2: Option<(u8, SlaveAddressMask)>,
 }
 
-pub fn configuration(slots: &Slots) -> Config {
-    filtered(slots).unwrap_or(plain(slots))
+impl Settings {
+    // The configuration, or what the filter's setter refuses.
+    pub fn config(self) -> Result<Config, Refusal> {
+        let (slave_address_1, address_11bits) = match self.slave_address_1 {
+            Some(OwnAddress::Seven(address)) => (address, false),
+            Some(OwnAddress::Ten(address)) => (address, true),
+            None => (0, false),
+        };
+        let (slave_address_2, slave_address_mask) = self
+            .slave_address_2
+            .unwrap_or((0, SlaveAddressMask::MaskNone));
+        let config = Config {
+            speed: self.speed,
+            timing: self.timing,
+            analog_filter: self.analog_filter.unwrap_or(true),
+            digital_filter: 0,
+            slave_address_1,
+            address_11bits,
+            slave_address_2,
+            slave_address_mask,
+        };
+        match self.digital_filter {
+            Some(Filter::Setter(cycles)) => config.enable_digital_filter(cycles),
+            Some(Filter::Field(digital_filter)) => Ok(Config {
+                digital_filter,
+                ..config
+            }),
+            None => Ok(config),
+        }
+    }
 }

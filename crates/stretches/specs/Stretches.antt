@@ -21,6 +21,10 @@ pub record Carried (s ws log b : List ℕ) (p : Progress) (log' b' : List ℕ) (
   pub going : (start : List ℕ) (p₀ : Parked) (b₀ : List ℕ) → length start ≡ length log
       → Going s ws start p₀ b₀ log p.parked b p.taken p.logged → Going s ws start p₀ b₀ log' r.parked b' r.taken r.logged
 
+-- no further than the words and the log go
+abbrev pub Within : Progress → List ℕ → List ℕ → Type 0
+Within p ws log = (p.taken ≤ length ws) × (p.logged ≤ length log)
+
 -- a call with another count
 abbrev pub counted : Parked → ℕ → Parked
 counted p n = record { kind = p.kind; address = p.address; send = p.send; receive = p.receive; phase = p.phase; count = n }

@@ -17,7 +17,8 @@ pub fn put_at(log: &mut [u32], at: usize, entries: &[u32]) -> bool
 }
 
 // A word of ISR: with the wanted flag the byte's access follows (`Some(true)`), by its number and word; with no flag the wait goes on
-// (`Some(false)`); and whatever else comes, or has no room, is left alone.
+// (`Some(false)`); and whatever else comes, or has no room, is left alone. An enum of three
+// cases would say the same in more lines.
 pub fn polled(
     isr: u32,
     wanted: Wanted,

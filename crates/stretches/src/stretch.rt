@@ -1,4 +1,5 @@
 // Bytes that follow each other: each word of ISR has the wanted flag or none that the wait looks at, and no word and no room is missing.
+// Each is a `while` over its progress: a byte that comes in takes two words, and a word that is left alone is not taken, so no `for` steps them.
 // Out and in are two loops: a trait for what is lent, how many words a byte takes and where it goes would be longer than the second loop.
 ghost use Rattle.stretches.specs.Stretches.{Sends, Receives};
 
@@ -14,23 +15,19 @@ pub fn send_bytes(from: Progress, send: &[u8], words: &[u32], log: &mut [u32]) -
 {
     let mut p = from;
     while p.parked.count < send.len() && p.taken < words.len() {
+        let isr = words[p.taken];
         let sent = byte_out(send, p.parked.count);
-        let Some(moved) = polled(
-            words[p.taken],
-            Wanted::Txis,
-            Txdr::WRITE,
-            sent,
-            p.logged,
-            log,
-        ) else {
-            break;
-        };
-        p.taken += 1;
-        if moved {
-            p.parked.count += 1;
-            p.logged += 4;
-        } else {
-            p.logged += 2;
+        match polled(isr, Wanted::Txis, Txdr::WRITE, sent, p.logged, log) {
+            Some(true) => {
+                p.parked.count += 1;
+                p.taken += 1;
+                p.logged += 4;
+            }
+            Some(false) => {
+                p.taken += 1;
+                p.logged += 2;
+            }
+            None => break,
         }
     }
     p
@@ -40,30 +37,26 @@ pub fn send_bytes(from: Progress, send: &[u8], words: &[u32], log: &mut [u32]) -
 pub fn receive_bytes(from: Progress, receive: &mut [u8], words: &[u32], log: &mut [u32]) -> Progress
     ensures { Receives words.now log.old receive.old from log.new receive.new result }
 {
+    // A public function has no `requires`, and the place after `taken` has to be one.
     if words.len() < from.taken {
         return from;
     }
     let mut p = from;
     while p.parked.count < receive.len() && p.taken + 1 < words.len() {
+        let isr = words[p.taken];
         let rxdr = words[p.taken + 1];
-        let Some(moved) = polled(
-            words[p.taken],
-            Wanted::Rxne,
-            Rxdr::READ,
-            rxdr,
-            p.logged,
-            log,
-        ) else {
-            break;
-        };
-        if moved {
-            receive[p.parked.count] = byte_in(words, p.taken);
-            p.parked.count += 1;
-            p.taken += 2;
-            p.logged += 4;
-        } else {
-            p.taken += 1;
-            p.logged += 2;
+        match polled(isr, Wanted::Rxne, Rxdr::READ, rxdr, p.logged, log) {
+            Some(true) => {
+                receive[p.parked.count] = byte_in(words, p.taken);
+                p.parked.count += 1;
+                p.taken += 2;
+                p.logged += 4;
+            }
+            Some(false) => {
+                p.taken += 1;
+                p.logged += 2;
+            }
+            None => break,
         }
     }
     p

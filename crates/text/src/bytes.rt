@@ -1,71 +1,73 @@
 // BYTES: `-`, or hex pairs, or one pair, `x` and a count.
-ghost use Rattle.std.specs.Prelude.{◌≤◌, ◌<◌};
+use crate::numbers::decimal;
+use arrayvec::ArrayVec;
+use std::iter::repeat_n;
 
-use crate::numbers::{NO_DIGIT, digit, number};
-use crate::tokens::{is_byte, part};
-use crate::{Bytes, Number, OVER};
+// The most bytes that BYTES can give.
+pub const MOST: usize = 16_384;
 
-fn digit_at(token: &[u8], place: usize) -> u64
-    ensures { result ≤ 256 }
-{
-    if place < token.len() {
-        return digit(token[place]);
-    }
-    NO_DIGIT
+#[derive(Clone, Copy, Debug, PartialEq, Eq)]
+pub enum Bytes<'a> {
+    Pairs(&'a [[u8; 2]]),
+    Repeated { byte: u8, count: usize },
 }
 
-// Whether a token is one pair that stands at every place.
-fn repeats(token: &[u8]) -> bool {
-    if 3 < token.len() {
-        return token[2] == b'x';
-    }
-    false
-}
+impl<'a> Bytes<'a> {
+    pub const NONE: Bytes<'static> = Bytes::Pairs(&[]);
 
-// The byte at a place, or more than a byte where the pair is none.
-fn pair(token: &[u8], place: usize) -> u64
-    requires { place < 16384 }
-{
-    if repeats(token) {
-        return digit_at(token, 0) * 16 + digit_at(token, 1);
+    // What a token gives, of at most so many bytes.
+    pub fn of(token: &'a str, most: usize) -> Option<Bytes<'a>> {
+        let bytes = match token.split_once('x') {
+            Some((pair, count)) => Bytes::Repeated {
+                byte: one_byte(pair)?,
+                count: decimal(count)?,
+            },
+            None if token == "-" => Bytes::NONE,
+            None => Bytes::Pairs(pairs(token)?),
+        };
+        (bytes.count() <= most).then_some(bytes)
     }
-    digit_at(token, 2 * place) * 16 + digit_at(token, 2 * place + 1)
-}
 
-// How many bytes a token gives, or `OVER`. That each is one is left to be seen.
-fn count_of(token: &[u8], top: u64) -> usize {
-    if is_byte(token, b'-') {
-        return 0;
+    fn count(self) -> usize {
+        match self {
+            Bytes::Pairs(pairs) => pairs.len(),
+            Bytes::Repeated { byte: _, count } => count,
+        }
     }
-    // Also a pair that stands nowhere has to be one.
-    if 0xFF < pair(token, 0) {
-        return OVER;
-    }
-    if repeats(token) {
-        let count = number(part(token, 3, token.len()), 10, top);
-        return match count {
-            Number::Value(count) => count as usize,
-            Number::None => OVER,
+
+    // The bytes in place of what the buffer holds.
+    pub fn write_to(self, buffer: &mut ArrayVec<u8, MOST>) {
+        buffer.clear();
+        // `of` has let pass only what has room.
+        let _ = match self {
+            Bytes::Pairs(pairs) => buffer.extend(pairs.iter().map(|pair| byte(*pair).unwrap_or(0))),
+            Bytes::Repeated { byte, count } => buffer.extend(repeat_n(byte, count)),
         };
     }
-    let count = token.len() / 2 + token.len() % 2;
-    if top < count as u64 { OVER } else { count }
 }
 
-// The bytes into the lent array, and their number, or `OVER` where the token is none.
-pub fn bytes(token: &[u8], top: u64, out: &mut Bytes) -> usize {
-    let count = count_of(token, top);
-    if 16_384 < count {
-        return OVER;
+// The byte that two hex digits of either case are.
+fn byte(pair: [u8; 2]) -> Option<u8> {
+    let [high, low] = pair;
+    let high = char::from(high).to_digit(16)?;
+    let low = char::from(low).to_digit(16)?;
+    Some((high * 16 + low) as u8)
+}
+
+// The same of a token, which has to be one pair.
+fn one_byte(token: &str) -> Option<u8> {
+    match token.as_bytes() {
+        [high, low] => byte([*high, *low]),
+        _ => None,
     }
-    let mut i: usize = 0;
-    while i < count {
-        let byte = pair(token, i);
-        if 0xFF < byte {
-            return OVER;
+}
+
+// The pairs that a token is, at least one.
+fn pairs(token: &str) -> Option<&[[u8; 2]]> {
+    match token.as_bytes().as_chunks::<2>() {
+        (pairs, []) if !pairs.is_empty() && pairs.iter().all(|pair| byte(*pair).is_some()) => {
+            Some(pairs)
         }
-        out[i] = (byte % 0x100) as u8;
-        i += 1;
+        _ => None,
     }
-    count
 }

@@ -3,10 +3,24 @@
 #![tactic(auto)]
 
 ghost use Rattle.std.specs.Prelude.{◌≡◌};
-ghost use Rattle.waits.specs.Waits.{found, after_found};
+ghost use Rattle.waits.specs.Waits.{wanted, found, after_found};
 
 use phases::{End, Kind, Phase};
-use wanted::Found;
+use wanted::{Found, Wanted};
+
+// The flag that is waited for: TC where a `write_read` has sent its bytes. The kind of a call and `more` both come from the parked call, whose
+// crate stands above.
+pub fn wanted(kind: Kind, more: bool) -> Wanted
+    ensures { result ≡ wanted kind more }
+{
+    if kind.incoming() {
+        Wanted::Rxne
+    } else if kind.restarts() && !more {
+        Wanted::Tc
+    } else {
+        Wanted::Txis
+    }
+}
 
 // The wanted flag: a byte is moved while one is left. A slave sends on, a `write_read` restarts.
 fn found(kind: Kind, more: bool) -> Phase

@@ -1,76 +1,68 @@
 // The words that are read ahead.
+use arrayvec::ArrayVec;
 use std::io::Read;
-use text::input::{Input, next_line};
-use text::numbers::number;
-use text::tokens::part;
-use text::{Number, Text};
+use text::lines::Lines;
+use text::numbers::hex;
 
-// At most three: a call takes no more. `open` while no other line has come; `input` is where the next line is.
-#[derive(Clone, Copy)]
-pub(crate) struct Ahead {
-    pub words: [u32; 3],
-    pub count: usize,
-    pub open: bool,
-    pub input: Input,
+// What comes after the words that were read.
+#[derive(Clone, Copy, Debug, PartialEq, Eq)]
+enum Next {
+    Words,
+    AnotherLine,
+    End,
 }
 
-// The words with the line that was read, which is one more, eight hex digits in either case, or ends them.
-fn with_line(ahead: Ahead, line: &Text, input: Input) -> Ahead {
-    let mut next = ahead;
-    let count = ahead.count;
-    next.input = input;
-    if count < 3 {
-        if input.count == 8 {
-            let found = number(part(line, 0, 8), 16, 0xFFFF_FFFF);
-            if let Number::Value(word) = found {
-                next.words[count] = (word % 0x1_0000_0000) as u32;
-                next.count = count + 1;
-                return next;
+// At most three words, since a call takes no more.
+#[derive(Drop)]
+pub(crate) struct Ahead {
+    words: ArrayVec<u32, 3>,
+    next: Next,
+}
+
+impl Ahead {
+    pub(crate) fn new() -> Ahead {
+        Ahead {
+            words: ArrayVec::new(),
+            next: Next::Words,
+        }
+    }
+
+    pub(crate) fn words(&self) -> &[u32] {
+        self.words.as_slice()
+    }
+
+    // Whether a line that is no word has ended the words.
+    pub(crate) fn at_line(&self) -> bool {
+        self.next == Next::AnotherLine
+    }
+
+    // Reads until there are three words or they have ended.
+    pub(crate) fn fill(&mut self, lines: &mut Lines<impl Read>) {
+        for _ in 0..3 {
+            if self.words.is_full() || self.next != Next::Words {
+                break;
+            }
+            match lines.next_line() {
+                Some(line) => match line.ok().and_then(word) {
+                    Some(word) => self.words.push(word),
+                    None => self.next = Next::AnotherLine,
+                },
+                None => self.next = Next::End,
             }
         }
     }
-    next.open = false;
-    next
-}
 
-// One word more, where there are not yet three and no other line has come.
-fn more(reader: &mut impl Read, ahead: Ahead, buffer: &mut [u8; 4096], line: &mut Text) -> Ahead {
-    if ahead.count < 3 {
-        if ahead.open {
-            let input = next_line(reader, buffer, ahead.input, line);
-            return with_line(ahead, line, input);
-        }
+    // What is left after a call took its words.
+    pub(crate) fn take(&mut self, taken: usize) {
+        self.words.drain(..taken.min(self.words.len()));
     }
-    ahead
 }
 
-// Reads ahead until there are three words or another line has come.
-pub(crate) fn fill(
-    reader: &mut impl Read,
-    ahead: Ahead,
-    buffer: &mut [u8; 4096],
-    line: &mut Text,
-) -> Ahead {
-    let mut next = more(reader, ahead, buffer, line);
-    next = more(reader, next, buffer, line);
-    more(reader, next, buffer, line)
-}
-
-// What is left after a call took its words.
-pub(crate) fn without(ahead: Ahead, taken: usize) -> Ahead {
-    let words = ahead.words;
-    let count = ahead.count;
-    if count < taken {
-        return ahead;
+// A line of eight hex digits, in either case.
+fn word(line: &[u8]) -> Option<u32> {
+    if line.len() == 8 {
+        hex(str::from_utf8(line).ok()?)
+    } else {
+        None
     }
-    let left = match taken {
-        0 => words,
-        1 => [words[1], words[2], 0],
-        2 => [words[2], 0, 0],
-        _ => [0, 0, 0],
-    };
-    let mut next = ahead;
-    next.words = left;
-    next.count = count - taken;
-    next
 }

@@ -3,9 +3,10 @@
 #![tactic(auto)]
 
 use crate::run::run;
+use print::output::Output;
 use std::env::{Env, FillError};
-use std::io::Print;
-use text::input::{NO_LINE, START};
+use std::fmt::Write;
+use text::lines::Lines;
 
 mod ahead;
 mod run;
@@ -14,23 +15,19 @@ mod run;
 fn walks(rt: &impl Env) -> u64 {
     match rt.arg(1, &mut [0u8; 1]) {
         Err(FillError::NotPresent) => 1,
-        _ => 18_446_744_073_709_551_615,
+        _ => u64::MAX,
     }
 }
 
 fn main(rt: HostRuntime) {
-    let mut stdin = rt.stdin();
-    let mut buffer = [0u8; 4096];
-    let mut input = START;
-    let mut left = walks(&rt);
-    while 0 < left {
-        input = run(&rt, &mut stdin, &mut buffer, input);
-        left -= 1;
-        if 0 < left {
-            if input.count == NO_LINE {
-                return;
-            }
-            let _ = rt.write_all(b"--\n");
+    let mut lines = Lines::new(rt.stdin());
+    let mut output = Output::new(&rt);
+    for walk in 0..walks(&rt) {
+        if 0 < walk {
+            let _ = writeln!(output, "--");
+        }
+        if !run(&mut lines, &mut output) {
+            break;
         }
     }
 }

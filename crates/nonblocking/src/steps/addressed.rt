@@ -4,7 +4,7 @@ ghost use Rattle.nonblocking.specs.Model.{model};
 
 use crate::Link;
 use access::Report;
-use answers::{Answer, Refusal};
+use answers::Refusal;
 use cr2::Cr2;
 use flag_order::Flag;
 use flags::{Icr, Isr};
@@ -17,10 +17,7 @@ impl Link {
     {
         let isr = word_at(words, 0);
         let address = Isr::address_code(isr);
-        let answer = Answer::Addressed {
-            address,
-            direction: Isr::direction(isr),
-        };
+        let answer = Isr::addressed(isr);
         if Isr::DIR.is_set(isr) {
             let report = try_settle(answer, 1, &[Isr::READ, isr], words, log)?;
             self.address = address;

@@ -8,8 +8,8 @@ use Rattle.runs.proofs.Sound.{right_begun}
 use Rattle.parked.specs.Refusals.{begun}
 use Rattle.blocking.proofs.run.begin.Goals as goal
 
-pub returns-then-lengths : goal.returns-then-lengths
-returns-then-lengths c = let good = sym c.lengths.ensures ∙ c.if-lengths.true in
+pub returns : goal.returns
+returns c = let good = sym c.lengths.ensures ∙ c.if-not-lengths.false in
     let n = length c.args.send.now in
     let m = length c.args.receive.now in
     rw (
@@ -19,6 +19,6 @@ returns-then-lengths c = let good = sym c.lengths.ensures ∙ c.if-lengths.true 
     )
     c.course.ensures
 
-pub returns-else-lengths : goal.returns-else-lengths
-returns-else-lengths c = rw (call_bad c.args.kind c.args.address c.args.send.now c.args.receive.now c.args.words.now (length c.args.log.now / 2) (sym c.lengths.ensures ∙ c.if-lengths.false), c.refused.ensures)
+pub returns-then-not-lengths : goal.returns-then-not-lengths
+returns-then-not-lengths c = rw (call_bad c.args.kind c.args.address c.args.send.now c.args.receive.now c.args.words.now (length c.args.log.now / 2) (sym c.lengths.ensures ∙ c.if-not-lengths.true), c.refused.ensures)
     (record { answer = refl; parked = refl; taken = refl; logged = refl; entries = refl; buffer = refl })

@@ -9,5 +9,5 @@ pub returns-then-wrong : goal.returns-then-wrong
 returns-then-wrong c = rw (outcome_wrong c.args.send.now c.args.call c.args.receive.now c.args.words.now (length c.args.log.now / 2) (sym c.wrong.ensures ∙ c.if-wrong.true), c.refused.ensures)
     (record { answer = refl; parked = refl; taken = refl; logged = refl; entries = refl; buffer = refl })
 
-pub returns-else-wrong : goal.returns-else-wrong
-returns-else-wrong c = rw (outcome_right c.args.send.now c.args.call c.args.receive.now c.args.words.now (length c.args.log.now / 2) (sym c.wrong.ensures ∙ c.if-wrong.false)) c.course.ensures
+pub returns : goal.returns
+returns c = rw (outcome_right c.args.send.now c.args.call c.args.receive.now c.args.words.now (length c.args.log.now / 2) (sym c.wrong.ensures ∙ c.if-wrong.false)) c.course.ensures

@@ -17,7 +17,7 @@ use Rattle.courses.proofs.closing.closing.Goals as goal
 
 pub returns-then-words-p : goal.returns-then-words-p
 returns-then-words-p c = λ s b. let p = c.args.p in
-    record { carried = carried_none c.requires.0 c.requires.1; stands = out s c.args.words.now b p.parked p.taken _ _ (next_wait s p.parked c.requires.2) c.if-words-p.true }
+    record { carried = carried_none c.requires.within.0 c.requires.within.1; stands = out s c.args.words.now b p.parked p.taken _ _ (next_wait s p.parked c.requires.waits) c.if-words-p.true }
 
 pub returns-then-asked : goal.returns-then-asked
 returns-then-asked c = λ s b. let h = rw c.if-asked.true at c.asked.ensures in
@@ -25,7 +25,7 @@ returns-then-asked c = λ s b. let h = rw c.if-asked.true at c.asked.ensures in
     let q = at_phase p.parked Transfer p.parked.count in
     let word : p.taken < length c.args.words.now = omega (arith, h.2) in
     record {
-      carried = rw h.5 (asks s c.args.words.now c.args.log.now b p.parked p.taken p.logged (p.logged + 2) c.requires.2 word h.3 refl h.0 h.1 (met _ Rxne h.4));
+      carried = rw h.5 (asks s c.args.words.now c.args.log.now b p.parked p.taken p.logged (p.logged + 2) c.requires.waits word h.3 refl h.0 h.1 (met _ Rxne h.4));
       stands = out s c.args.words.now b q (p.taken + 1) _ _ (next_in s q refl h.0) h.2;
     }
 
@@ -39,6 +39,6 @@ returns-then-stopped c = λ s b. let still = rw c.if-asked.false at c.asked.ensu
     record {
       carried =
           rw (h.3, still)
-          (stop_on s c.args.words.now c.args.log.now b p.parked p.taken p.logged c.requires.2 (stop_found p.parked (get_or c.args.words.now p.taken 0) _ (wanted_outside p.parked q.once) q.stop) q.txis q.txe h.1 room);
+          (stop_on s c.args.words.now c.args.log.now b p.parked p.taken p.logged c.requires.waits (stop_found p.parked (get_or c.args.words.now p.taken 0) _ (wanted_outside p.parked q.once) q.stop) q.txis q.txe h.1 room);
       stands = λ n. run_over s ended b n (drop (p.taken + 3) c.args.words.now) Stopf (wants_at_lem ended _ (Ended Stopf) refl);
     }

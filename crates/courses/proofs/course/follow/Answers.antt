@@ -8,13 +8,12 @@ use Rattle.courses.proofs.course.follow.Goals as goal
 
 pub through-requires : goal.through-requires
 through-requires c = let o = rw c.in-Some.is at (c.opened.ensures c.args.send.now) in
-    let k = o.1 in (
-      k.words,
-      k.room,
-      ap (λ (q : Progress). q.parked.phase) o.0,
-      ap (λ (q : Progress). q.parked.send) o.0 ∙ c.if-call-send.true,
-      ap (λ (q : Progress). q.parked.receive) o.0 ∙ c.if-call-receive.true ∙ sym k.wide,
-    )
+    let k = o.1 in record {
+      within = (k.words, k.room);
+      waits = ap (λ (q : Progress). q.parked.phase) o.0;
+      send = ap (λ (q : Progress). q.parked.send) o.0 ∙ c.if-call-send.true;
+      receive = ap (λ (q : Progress). q.parked.receive) o.0 ∙ c.if-call-receive.true ∙ sym k.wide;
+    }
 
 pub returns-in-Some : goal.returns-in-Some
 returns-in-Some c = let o = rw c.in-Some.is at (c.opened.ensures c.args.send.now) in follows_on o.1 c.through.ensures

@@ -5,5 +5,5 @@ use Rattle.courses.proofs.course.heard.Goals as goal
 pub returns-then-incoming : goal.returns-then-incoming
 returns-then-incoming c = record {
   call = c.receive_bytes.ensures.call;
-  carried = λ s. c.receive_bytes.ensures.carried s c.requires.0 c.requires.1 c.requires.2 (sym c.incoming.ensures ∙ c.if-incoming.true) c.requires.3;
+  carried = λ s. c.receive_bytes.ensures.carried s c.requires.within.0 c.requires.within.1 c.requires.waits (sym c.incoming.ensures ∙ c.if-incoming.true) c.requires.receive;
 }

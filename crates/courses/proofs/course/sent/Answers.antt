@@ -5,5 +5,5 @@ use Rattle.courses.proofs.course.sent.Goals as goal
 pub returns-else-incoming : goal.returns-else-incoming
 returns-else-incoming c = record {
   call = c.send_bytes.ensures.call;
-  carried = λ b. c.send_bytes.ensures.carried b c.requires.0 c.requires.1 c.requires.2 (sym c.incoming.ensures ∙ c.if-incoming.false) c.requires.3;
+  carried = λ b. c.send_bytes.ensures.carried b c.requires.within.0 c.requires.within.1 c.requires.waits (sym c.incoming.ensures ∙ c.if-incoming.false) c.requires.send;
 }

@@ -7,10 +7,8 @@ use Rattle.courses.proofs.course.through.Goals as goal
 
 pub closing-requires : goal.closing-requires
 closing-requires c = let k = c.heard-done.ensures.carried c.args.send.now in (
-  k.words,
-  k.room,
-  ap (λ (q : Parked). q.phase) c.heard-done.ensures.call ∙ c.turned-half.ensures.phase ∙ ap (λ (q : Parked). q.phase) c.sent-out.ensures.call ∙ c.requires.2,
-)
+    record { within = (k.words, k.room); waits = ap (λ (q : Parked). q.phase) c.heard-done.ensures.call ∙ c.turned-half.ensures.phase ∙ ap (λ (q : Parked). q.phase) c.sent-out.ensures.call ∙ c.requires.waits }
+    )
 
 pub returns : goal.returns
 returns c = follows_on

@@ -9,5 +9,5 @@ returns-then-restarted c = let h = rw c.if-restarted.true at c.restarted.ensures
     record {
       phase = refl;
       receive = refl;
-      carried = λ s b. rw h.5 (restart_on s c.args.words.now c.args.log.now b p.parked p.taken p.logged c.requires.2 h.0 h.1 h.2 h.3 h.4);
+      carried = λ s b. rw h.5 (restart_on s c.args.words.now c.args.log.now b p.parked p.taken p.logged c.requires.waits h.0 h.1 h.2 h.3 h.4);
     }

@@ -1,9 +1,0 @@
--- `print::buffer::copy` is safe and ends.
-use Rattle.std.proofs.Common.{◌≤◌, ◌-◌}
-use Rattle.print.proofs.buffer.copy.Given as goal
-
-abbrev pub invariant-loop-i : goal.invariant-loop-i
-invariant-loop-i g l = 0 ≤ l.i
-
-abbrev pub decreases-loop-i : goal.decreases-loop-i
-decreases-loop-i g l = l.count - l.i
