@@ -13,7 +13,7 @@ use Rattle.parked.specs.After.{answer}
 use Rattle.runs.specs.Run.{Outcome, stopped, joined, runs}
 use Rattle.runs.proofs.OneAccess.{joined_joined}
 use Rattle.stretches.specs.declared.Progress.{Progress}
-use Rattle.stretches.specs.Stretches.{Going, Carried}
+use Rattle.stretches.specs.Stretches.{Going}
 use Rattle.stretches.proofs.Puts.{put_rest}
 use Rattle.blocking.specs.Steps.{Turned, Onward}
 
@@ -94,19 +94,3 @@ pub over_part : (s ws log b : List ℕ) (p : Progress) (a : End) → p.taken ≤
     → runs s ((length log - p.logged) / 2) p.parked b (drop p.taken ws) ≡ stopped (answer a p.parked) p.parked b
 over_part s ws log b p a ht hg h =
     ap₂ (λ (n : ℕ) (x : List ℕ). runs s (n / 2) p.parked b x) (sym (ap length (part_to_end log p.logged) ∙ length-drop p.logged log)) (sym (part_to_end ws p.taken)) ∙ h
-
-module _ {s ws log₀ b₀ : List ℕ} {p₀ : Progress} where
-  pub carried_step : {log b log' b' : List ℕ} {p r : Progress} → Carried s ws log₀ b₀ p₀ log b p → Onward s ws log b p r log' b'
-      → length log' ≡ length log → length b' ≡ length b → Carried s ws log₀ b₀ p₀ log' b' r
-  carried_step c f e k = record {
-    words = f.words;
-    room = omega (arith, f.room);
-    long = e ∙ c.long;
-    wide = k ∙ c.wide;
-    more = omega (arith, f.more, c.more);
-    going = λ start q a h g. f.going start q a (h ∙ sym c.long) (c.going start q a h g);
-  }
-
-  -- an access makes the log that is left shorter
-  pub shorter : {log b : List ℕ} {p : Progress} → Carried s ws log₀ b₀ p₀ log b p → p₀.logged + 2 ≤ p.logged → length log - p.logged < length log₀ - p₀.logged
-  shorter c h = omega (arith, c.room, c.long)

@@ -1,7 +1,6 @@
 -- The whole outcome of a step: refusals 12, 9 and 10, or the plan.
 use Rattle.std.specs.Prelude.{ℕ, ◌≡◌, Bool, true, false, cond, List, [], length, get_or, take, leb, eqb}
 use Rattle.access.specs.declared.Report.{Report}
-use Rattle.answers.specs.declared.Answer.TheVariants.{ImpossibleLink}
 use Rattle.access.specs.Access.{Access, reads, entries, over}
 use Rattle.answers.specs.Answers.{Said, says, said}
 use Rattle.ending.specs.Link.{Link}
@@ -37,10 +36,6 @@ plan_at s l = plan_of s.call (get_or s.words 0 0) (get_or s.words 1 0) (get_or s
 
 unfoldable pub outcome : Step → Link → Outcome
 outcome s l = settled (impossible l) (plan_at s l) s.words s.places l
-
--- the report of answer 12
-abbrev pub refusal12 : Report
-refusal12 = record { answer = ImpossibleLink; taken = 0; logged = 0 }
 
 -- how many bytes an answer shows, from the front of the link's buffer: the count of Data and of `get_data`
 abbrev pub count_shown : Said → ℕ

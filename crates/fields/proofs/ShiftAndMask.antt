@@ -1,22 +1,18 @@
 -- A field by shift and mask is the field by arithmetic, once over place and width.
 use mathlib.Core.Path.{◌≡◌, refl, sym, ap, ap₂, ◌∙◌, subst}
 use Prim.Native.Nat.{ℕ, suc, ◌+◌, ◌-◌, ◌*◌, ◌/◌, ◌%◌, ◌^◌, ◌≤◌, ◌<◌, min}
-use native.Mathlib.Nat.{add-zero, one-mul, add_assoc, add_comm, mod-lt, mod-eq_of_lt, lt_of_lt_of_le, add-mul, suc-mul, mul-le-mul_right, mul_assoc, add-mul-mod_self_right, zero-mod, div-eq_of_lt, min-eq_left, min-eq_right, le_of_lt, zero-mul, sub-zero, min-le_right}
+use native.Mathlib.Nat.{add-zero, add_assoc, add_comm, mod-lt, mod-eq_of_lt, lt_of_lt_of_le, add-mul, suc-mul, mul-le-mul_right, mul_assoc, add-mul-mod_self_right, zero-mod, div-eq_of_lt, min-eq_left, min-eq_right, le_of_lt, zero-mul, sub-zero, min-le_right}
 use mathlib.Core.Bool.{Bool, true, false}
 use lib.Dec.{leb}
 use borrow.Author.Tests.{leb-true, leb-false}
 use native.Mathlib.Omega.{arith}
-use lib.Pow.{pow_pos, pow-lt, pow_mono, pow-add, split, high, shr_lt, shl_exact, shr-shr, ones_lt, ones_split, mod-mod-pow}
+use lib.Pow.{pow_pos, pow_mono, pow-add, split, high, shr_lt, shl_exact, shr-shr, ones_lt, ones_split, mod-mod-pow}
 use lib.Bits.{bit_and, bit_or, and_mask, and_block, or_block, and_zero_r, or_zero_r, or_shifted}
 use Rattle.fields.specs.declared.Field.{Field}
 use Rattle.fields.specs.Field.{get, put}
 
 abbrev at : ℕ → ℕ → Field
 at p n = record { place = p; width = n }
-
--- `1 << k`
-pub bit_is : (k : ℕ) → k < 32 → 1 * 2 ^ k % 2 ^ 32 ≡ 2 ^ k
-bit_is k h = rw one-mul (mod-eq_of_lt (pow-lt h))
 
 -- all ones from bit `p` on, shifted down
 pub ones_above : (p : ℕ) → p < 32 → (2 ^ 32 - 1) / 2 ^ p ≡ 2 ^ (32 - p) - 1

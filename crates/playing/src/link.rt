@@ -1,6 +1,13 @@
 // The calls of the non-blocking driver, and the link after them.
+ghost use Rattle.std.specs.Prelude.{◌≡◌, ◌<◌, IfOk, length as size};
+ghost use Rattle.access.specs.Access.{over, Reported};
+ghost use Rattle.access.specs.Reports.{report_of, report_of_answer};
+ghost use Rattle.nonblocking.specs.Model.{model};
+ghost use Rattle.playing.specs.Link.{given, with_values, set_up_of, SetUp, Played};
+ghost use Rattle.script.specs.Settings.{configuration_of};
+
 use access::Report;
-use answers::Answer;
+use answers::{Answer, Refusal};
 use arrayvec::ArrayVec;
 use nonblocking::construct::try_i2c1;
 use nonblocking::{Called, Link};
@@ -11,7 +18,9 @@ use std::fmt;
 use text::bytes::{Bytes, MOST};
 
 // A call with what its line gives.
-pub fn play_link(link: Link, call: LinkCall<'_>, words: &[u32], log: &mut [u32]) -> Called {
+pub fn play_link(link: Link, call: LinkCall<'_>, words: &[u32], log: &mut [u32]) -> Called
+    ensures { Played words.now (model link) result.report (model result.link) log.old log.new call.entry }
+{
     let mut buffer = ArrayVec::new();
     match call {
         LinkCall::Reset => left(Link::new()),
@@ -43,13 +52,17 @@ pub fn play_link(link: Link, call: LinkCall<'_>, words: &[u32], log: &mut [u32])
 }
 
 // The bytes that a line gives.
-fn given<'a>(bytes: Bytes<'_>, buffer: &'a mut ArrayVec<u8, MOST>) -> &'a [u8] {
+fn given<'a>(bytes: Bytes<'_>, buffer: &'a mut ArrayVec<u8, MOST>) -> &'a [u8]
+    ensures { result.now ≡ given bytes.entry }
+{
     bytes.write_to(buffer);
     buffer.as_slice()
 }
 
 // No call of the driver: no access, and the answer 0.
-fn left(link: Link) -> Called {
+fn left(link: Link) -> Called
+    ensures { (result.link ≡ link) × (result.report ≡ report_of_answer Answer.Done) }
+{
     Called {
         link,
         report: Report::without_access(Answer::Done),
@@ -57,14 +70,9 @@ fn left(link: Link) -> Called {
 }
 
 // `nb set`
-fn set(link: Link, values: LinkValues<'_>) -> Link {
-    let mut data = link.data;
-    if let Some(bytes) = values.data {
-        let mut buffer = ArrayVec::new();
-        for (place, byte) in data.iter_mut().zip(given(bytes, &mut buffer)) {
-            *place = *byte;
-        }
-    }
+fn set(link: Link, values: LinkValues<'_>) -> Link
+    ensures { model result ≡ with_values values.entry (model link) }
+{
     Link {
         address: values.address.unwrap_or(link.address),
         watchdog: values.watchdog.unwrap_or(link.watchdog),
@@ -72,17 +80,31 @@ fn set(link: Link, values: LinkValues<'_>) -> Link {
         length: values.length.unwrap_or(link.length),
         errors: values.errors.unwrap_or(link.errors),
         length_write_read: values.length_write_read.unwrap_or(link.length_write_read),
-        data,
+        data: match values.data {
+            Some(bytes) => with_front(link.data, bytes),
+            None => link.data,
+        },
     }
 }
 
+// The bytes over the first ones of the data, as many as have room.
+#[tactic(auto, using(crate::proofs::Front::over_cut))]
+fn with_front(mut data: [u8; 255], bytes: Bytes<'_>) -> [u8; 255]
+    ensures { result ≡ over (given bytes.entry) «data» }
+{
+    let mut buffer = ArrayVec::new();
+    let bytes = given(bytes, &mut buffer);
+    let n = bytes.len().min(data.len());
+    data[..n].copy_from_slice(&bytes[..n]);
+    data
+}
+
 // `nb new`: a refusal leaves the link.
-fn construct(link: Link, settings: Settings, clock: u32, words: &[u32], log: &mut [u32]) -> Called {
-    let tried = match settings.config() {
-        Ok(config) => try_i2c1(config, clock, words, log),
-        Err(refusal) => Err(refusal),
-    };
-    match tried {
+#[tactic(auto, using(crate::proofs::Done::done))]
+fn construct(link: Link, settings: Settings, clock: u32, words: &[u32], log: &mut [u32]) -> Called
+    ensures { SetUp (set_up_of (configuration_of settings) clock words.now (size log.old)) (model link) result.report (model result.link) log.old log.new }
+{
+    match try_construct(settings, clock, words, log) {
         Ok(report) => Called {
             link: Link::new(),
             report,
@@ -92,6 +114,19 @@ fn construct(link: Link, settings: Settings, clock: u32, words: &[u32], log: &mu
             report: Report::from(refusal),
         },
     }
+}
+
+// The set-up, where the filter's setter does not refuse.
+fn try_construct(
+    settings: Settings,
+    clock: u32,
+    words: &[u32],
+    log: &mut [u32],
+) -> Result<Report, Refusal>
+    ensures report { Reported (set_up_of (configuration_of settings) clock words.now (size log.old)) log.old (report_of result) log.new }
+    ensures logged { IfOk result (λ report. 0 < report.logged) }
+{
+    try_i2c1(settings.config()?, clock, words, log)
 }
 
 // A link as it is kept.

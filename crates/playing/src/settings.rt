@@ -1,4 +1,7 @@
 // The calls of the configuration.
+ghost use Rattle.std.specs.Prelude.{◌≡◌};
+ghost use Rattle.playing.specs.Settings.{told_of};
+
 use answers::Refusal;
 use config::Config;
 use script::calls::ConfigCall;
@@ -12,7 +15,9 @@ pub enum Told {
 }
 
 // A call of the configuration. Of the setter it is the setting that it leaves.
-pub fn config_call(call: ConfigCall) -> Result<Told, Refusal> {
+pub fn config_call(call: ConfigCall) -> Result<Told, Refusal>
+    ensures { result ≡ told_of call }
+{
     match call {
         ConfigCall::Timing { clock, settings } => {
             settings.config()?.timing_bits(clock).map(Told::Word)

@@ -1,4 +1,7 @@
 // Standard output, written in large parts. The library's own buffered writer takes an allocator and can fail, which no program here can.
+ghost use Rattle.std.specs.Prelude.{◌≡◌, []};
+ghost use Rattle.print.specs.Output.{held, Holds};
+
 use arrayvec::ArrayVec;
 use std::fmt;
 use std::io::Print;
@@ -11,7 +14,9 @@ pub struct Output<P> {
 }
 
 impl<P: Print> Output<P> {
-    pub fn new(rt: P) -> Output<P> {
+    pub fn new(rt: P) -> Output<P>
+        ensures { held result ≡ [] }
+    {
         Output {
             rt,
             bytes: ArrayVec::new(),
@@ -19,7 +24,9 @@ impl<P: Print> Output<P> {
     }
 
     // Writes what is still to be written.
-    pub fn flush(&mut self) {
+    pub fn flush(&mut self)
+        ensures { held self.new ≡ [] }
+    {
         // A reader that is gone is told nothing more.
         let _ = self.rt.write_all(self.bytes.as_slice());
         self.bytes.clear();
@@ -27,6 +34,8 @@ impl<P: Print> Output<P> {
 }
 
 impl<P: Print> fmt::Write for Output<P> {
+    ghost write_str_gives = { λ old text new. Holds old text new };
+
     fn write_str(&mut self, s: &str) -> fmt::Result {
         if self.bytes.remaining_capacity() < s.len() {
             self.flush();

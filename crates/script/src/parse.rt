@@ -1,4 +1,7 @@
 // From a line to its call.
+ghost use Rattle.std.specs.Prelude.{◌≡◌, IsUtf8, ◌<◌, OnSome, IfSome, MatchOption, length, map};
+ghost use Rattle.script.specs.Lines.{word_tokens, AreWords, values_of, call_tokens, log_of, ArePlaces};
+
 use crate::calls::Call;
 use crate::items::call;
 use arrayvec::ArrayVec;
@@ -15,26 +18,43 @@ pub struct Line<'a> {
 }
 
 // The call of a line, if it is one. Its words are put in place of what `words` holds.
-pub fn parse<'a>(line: &'a [u8], words: &mut Words) -> Option<Line<'a>> {
+pub fn parse<'a>(line: &'a [u8], words: &mut Words) -> Option<Line<'a>>
+    ensures no_text { ¬ IsUtf8 line.now → (result ≡ None) × (words.new ≡ words.old) }
+    ensures words { OnSome result (AreWords (word_tokens line.now) × (words.new.items ≡ values_of (word_tokens line.now))) }
+    ensures places { IfSome result (λ read. ArePlaces (log_of (call_tokens line.now)) read.places) }
+{
     let line = str::from_utf8(line).ok()?;
-    let mut tokens = line.split(' ').filter(|token| !token.is_empty());
-    // No call has as many tokens.
-    let mut items = ArrayVec::<&str, 16>::new();
-    for token in tokens.by_ref() {
-        if token == "|" {
-            break;
-        }
-        items.try_push(token).ok()?;
-    }
-    words.clear();
-    for word in tokens {
-        words.try_push(hex(word)?).ok()?;
-    }
+    let items = call_items(line)?;
+    put_words(line, words)?;
     with_log(items.as_slice())
 }
 
+// The tokens before the first `|`. No call has more than 16.
+fn call_items(line: &str) -> Option<ArrayVec<&str, 16>>
+    ensures { MatchOption result (16 < length (call_tokens line.now)) (λ items. map (λ item. item.now) items.items ≡ call_tokens line.now) }
+{
+    let tokens = line.split(' ').filter(|token| !token.is_empty());
+    let mut items = ArrayVec::new();
+    items.extend(tokens.take_while(|token| *token != "|")).ok()?;
+    Some(items)
+}
+
+// The words are the tokens after it.
+fn put_words(line: &str, words: &mut Words) -> Option<()>
+    ensures { MatchOption result (¬ AreWords (word_tokens line.now)) (λ _. AreWords (word_tokens line.now) × (words.new.items ≡ values_of (word_tokens line.now))) }
+{
+    let tokens = line.split(' ').filter(|token| !token.is_empty());
+    words.clear();
+    for word in tokens.skip_while(|token| *token != "|").skip(1) {
+        words.try_push(hex(word)?).ok()?;
+    }
+    Some(())
+}
+
 // The call of its tokens. `log=` may stand as the last one.
-fn with_log<'a>(items: &[&'a str]) -> Option<Line<'a>> {
+fn with_log<'a>(items: &[&'a str]) -> Option<Line<'a>>
+    ensures { IfSome result (λ line. ArePlaces (log_of (map (λ item. item.now) items.now)) line.places) }
+{
     if let [items @ .., last] = items
         && let Some(places) = last.strip_prefix("log=")
     {

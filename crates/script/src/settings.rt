@@ -1,4 +1,7 @@
 // The configuration that a line gives.
+ghost use Rattle.std.specs.Prelude.{◌≡◌};
+ghost use Rattle.script.specs.Settings.{configuration_of};
+
 use answers::Refusal;
 use config::{Config, SlaveAddressMask};
 
@@ -28,7 +31,9 @@ pub struct Settings {
 
 impl Settings {
     // The configuration, or what the filter's setter refuses.
-    pub fn config(self) -> Result<Config, Refusal> {
+    pub fn config(self) -> Result<Config, Refusal>
+        ensures { result ≡ configuration_of self }
+    {
         let (slave_address_1, address_11bits) = match self.slave_address_1 {
             Some(OwnAddress::Seven(address)) => (address, false),
             Some(OwnAddress::Ten(address)) => (address, true),

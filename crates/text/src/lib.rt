@@ -2,5 +2,6 @@
 #![tactic(auto)]
 
 pub mod bytes;
+mod input;
 pub mod lines;
 pub mod numbers;

@@ -1,0 +1,3 @@
+pub mod Link
+pub mod Settings
+pub mod Unwaited

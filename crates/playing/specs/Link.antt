@@ -1,0 +1,77 @@
+-- The calls of the non-blocking driver: which call of the definitions a line's call is, and what the others do to the link.
+use Rattle.std.specs.Prelude.{ℕ, ◌≡◌, cond, eqb, List, [], length as size, take, Option, Some, None, Result, Ok, Err, unwrap_or}
+use Rattle.access.specs.declared.Report.{Report}
+use Rattle.answers.specs.declared.Refusal.{Refusal}
+use Rattle.answers.specs.Answers.{says}
+use Rattle.access.specs.Access.{Settled, Reported, over}
+use Rattle.config.specs.declared.Config.{Config}
+use Rattle.construction.specs.Drivers.{non_blocking_construction}
+use Rattle.ending.specs.Call.{Call, master_write, master_write_read, master_read, slave_write, check_isr_flags, execute_watchdog, get_errors_reset, master_get_data, slave_get_data, get_address, listen, unlisten, slave_sbc, set_address}
+use Rattle.ending.specs.Link.{Link, link_at, fresh}
+use Rattle.ending.specs.Outcome.{outcome, Matches}
+use Rattle.script.specs.Settings.{configuration_of}
+use Rattle.script.specs.declared.calls.LinkValues.{LinkValues}
+use Rattle.script.specs.declared.calls.LinkCall.{LinkCall}
+use Rattle.script.specs.declared.calls.LinkCall.TheVariants.{Reset, Set, New, MasterWrite, MasterWriteRead, MasterRead, SlaveWrite, Check, Watchdog, Errors, MasterData, SlaveData, Address, Listen, Unlisten, SlaveSbc, SetAddress}
+use Rattle.text.specs.Bytes.{bytes_of}
+use Rattle.text.specs.declared.bytes.Bytes.{Bytes}
+use Rattle.playing.specs.Unwaited.{settled_refusal}
+
+-- the bytes that a line gives, at most as many as BYTES may give
+abbrev pub given : Bytes → List ℕ
+given bytes = take 16384 (bytes_of bytes)
+
+-- `nb set`: bytes go over the front of the link's, as many as have room
+abbrev pub with_data : Option Bytes → List ℕ → List ℕ
+with_data None before = before
+with_data (Some bytes) before = over (given bytes) before
+
+abbrev pub with_values : LinkValues → Link → Link
+with_values v l = link_at
+    (unwrap_or v.address l.address)
+    (unwrap_or v.watchdog l.watchdog)
+    (unwrap_or v.index l.index)
+    (unwrap_or v.length l.length)
+    (unwrap_or v.errors l.errors)
+    (unwrap_or v.length_write_read l.length_write_read)
+    (with_data v.«data» l.«data»)
+
+-- `nb new`: the set-up, or what the filter's setter refuses
+abbrev pub set_up_of : Result Config Refusal → ℕ → List ℕ → ℕ → Settled
+set_up_of (Ok c) clock words places = non_blocking_construction c clock words places
+set_up_of (Err refusal) clock words places = settled_refusal refusal
+
+-- the link is a fresh one where the set-up was done, whose answer is 0, and as it was where it was refused
+pub record SetUp (s : Settled) (l : Link) (r : Report) (l' : Link) (before after : List ℕ) : Type 0 where
+  pub report : Reported s before r after
+  pub link : l' ≡ cond (eqb s.answer.number 0) fresh l
+
+-- the words, the link before, the report, the link after, and the log before and after
+module _ (words : List ℕ) (l : Link) (r : Report) (l' : Link) (before after : List ℕ) where
+  -- no call of the driver: no access, the answer 0, and this link is left
+  abbrev pub Left : Link → Type 0
+  Left left = Matches (record { accesses = []; answer = says 0 []; link = left; shown = []; taken = 0 }) r l' before after
+
+  -- a call of the driver
+  abbrev pub Calls : Call → Type 0
+  Calls call = Matches (outcome (record { call = call; words = words; places = size before }) l) r l' before after
+
+  -- the report of a line's call, and the link and the log after it
+  abbrev pub Played : LinkCall → Type 0
+  Played Reset = Left fresh
+  Played (Set values) = Left (with_values values l)
+  Played (New clock settings) = SetUp (set_up_of (configuration_of settings) clock words (size before)) l r l' before after
+  Played (MasterWrite address bytes) = Calls (master_write address (given bytes))
+  Played (MasterWriteRead address bytes n) = Calls (master_write_read address (given bytes) n)
+  Played (MasterRead address n) = Calls (master_read address n)
+  Played (SlaveWrite bytes) = Calls (slave_write (given bytes))
+  Played Check = Calls check_isr_flags
+  Played Watchdog = Calls execute_watchdog
+  Played Errors = Calls get_errors_reset
+  Played MasterData = Calls master_get_data
+  Played SlaveData = Calls slave_get_data
+  Played Address = Calls get_address
+  Played Listen = Calls listen
+  Played Unlisten = Calls unlisten
+  Played (SlaveSbc on) = Calls (slave_sbc on)
+  Played (SetAddress address) = Calls (set_address address)

@@ -1,0 +1,28 @@
+-- The blocking calls that never wait: which call of the definitions a line's call is.
+use Rattle.std.specs.Prelude.{ℕ, true, false, List, [], Result, Ok, Err}
+use Rattle.answers.specs.declared.Refusal.{Refusal}
+use Rattle.answers.specs.Answers.{said, answer_of}
+use Rattle.access.specs.Access.{Settled}
+use Rattle.config.specs.declared.Config.{Config}
+use Rattle.addressing.specs.Addressed.{slave_addressed}
+use Rattle.construction.specs.Drivers.{blocking_construction}
+use Rattle.never_wait.specs.NeverWait.{slave_sbc, interrupt, clear_irq}
+use Rattle.script.specs.Settings.{configuration_of}
+use Rattle.script.specs.declared.calls.UnwaitedCall.{UnwaitedCall}
+use Rattle.script.specs.declared.calls.UnwaitedCall.TheVariants.{New, SlaveAddressed, SlaveSbc, Listen, Unlisten, ClearIrq}
+
+-- what the filter's setter refuses comes to no construction: no word is taken, and nothing is written
+abbrev pub settled_refusal : Refusal → Settled
+settled_refusal refusal = record { answer = said (answer_of refusal); taken = 0; numbers = [] }
+
+abbrev pub constructed : Result Config Refusal → ℕ → List ℕ → ℕ → Settled
+constructed (Ok c) clock words places = blocking_construction c clock words places
+constructed (Err refusal) clock words places = settled_refusal refusal
+
+abbrev pub unwaited : UnwaitedCall → List ℕ → ℕ → Settled
+unwaited (New clock settings) words places = constructed (configuration_of settings) clock words places
+unwaited SlaveAddressed words places = slave_addressed words places
+unwaited (SlaveSbc on) words places = slave_sbc on words places
+unwaited (Listen event) words places = interrupt event true words places
+unwaited (Unlisten event) words places = interrupt event false words places
+unwaited (ClearIrq event) words places = clear_irq event places

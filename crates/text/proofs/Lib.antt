@@ -1,0 +1,5 @@
+pub mod Filling
+pub mod PairsOf
+pub mod SoFar
+pub mod Tokens
+pub mod Unread
