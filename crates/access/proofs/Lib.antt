@@ -1,3 +1,4 @@
 pub mod Lists
 pub mod Over
 pub mod Promises
+pub mod Stored

@@ -33,6 +33,7 @@ pub enum Answer {
     ArbitrationLost,
     // How many bytes went before the frame ended.
     IncorrectFrameSize(usize),
+    // The refusals by their own names: an answer is one list, and with a `Refusal` inside it a match on one would be two.
     BadLength,
     NoRate,
     BadFilter,

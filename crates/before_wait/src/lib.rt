@@ -27,7 +27,8 @@ pub fn after(opening: Opening, kind: Kind, word: u32) -> Phase
     }
 }
 
-// CR2 is read again while START is set: a previous address sequence has not ended.
+// CR2 is read again while START is set: a previous address sequence has not ended. This and `flush_rxdr` are named by what they do, which one
+// function of a flag and two phases would not say.
 fn started(kind: Kind, cr2: u32) -> Phase
     ensures { result ≡ cond (starting cr2) (Phase.Open Opening.Start) (Phase.Open (after_start kind)) }
 {

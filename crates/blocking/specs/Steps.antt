@@ -1,8 +1,7 @@
 -- What the parts of a run promise: how one access carries it on, and what is returned where none follows.
-use Rattle.std.specs.Prelude.{ℕ, ◌+◌, ◌-◌, ◌/◌, ◌≤◌, ◌<◌, ◌≡◌, List, ◌∷◌, length, take, drop, Result, Ok, Err}
+use Rattle.std.specs.Prelude.{ℕ, ◌+◌, ◌-◌, ◌/◌, ◌≤◌, ◌≡◌, List, length, take, drop, Result, Ok, Err}
 use Rattle.answers.specs.Answers.{said}
 use Rattle.phases.specs.declared.End.{End}
-use Rattle.phases.specs.declared.End.TheVariants.{LogFull}
 use Rattle.parked.specs.declared.Parked.{Parked}
 use Rattle.stretches.specs.declared.Progress.{Progress}
 use Rattle.runs.specs.declared.Ran.{Ran}
@@ -16,11 +15,6 @@ pub record Answered (p : Progress) (e : End) (r : Ran) : Type 0 where
   pub parked : r.parked ≡ p.parked
   pub taken : r.report.taken ≡ p.taken
   pub logged : r.report.logged ≡ p.logged
-
--- an access is in the first two places of the log, or they are not there
-abbrev pub Entered : {X : Type 0} → ℕ → ℕ → List ℕ → Result X End → List ℕ → Type 0
-Entered o w log (Ok x) log' = (2 ≤ length log) × (log' ≡ o ∷ w ∷ drop 2 log)
-Entered o w log (Err e) log' = (e ≡ LogFull) × (length log < 2) × (log' ≡ log)
 
 -- one access over the words and the log that are left
 pub record Turned (s : List ℕ) (p : Parked) (b ws log : List ℕ) (r : Progress) (b' log' : List ℕ) : Type 0 where

@@ -1,7 +1,7 @@
 // One access of a run, over the words and the log that are left.
 ghost use Rattle.std.specs.Prelude.{◌≡◌, cond, set};
 ghost use Rattle.fields.specs.Words.{received};
-ghost use Rattle.blocking.specs.Steps.{Entered, Made};
+ghost use Rattle.blocking.specs.Steps.{Made};
 
 use data_registers::Rxdr;
 use parked::{End, Next, Parked};
@@ -9,18 +9,8 @@ use settling::write_log;
 use slices::byte_at;
 use stretches::Progress;
 
-// An access to the log, which parks the call where it has no room.
-fn enter(number: u32, word: u32, log: &mut [u32]) -> Result<(), End>
-    ensures { Entered number word log.old result log.new }
-{
-    if write_log(log, &[number, word]) {
-        Ok(())
-    } else {
-        Err(End::LogFull)
-    }
-}
-
-// A byte that came in goes to its place.
+// A byte that came in goes to its place. `keep` comes with the place, since the two kinds of read are one case of every law over a run. The place
+// is compared and then indexed: of what a slice's `get_mut` lends, a proof knows the length alone.
 fn keep_byte(keep: bool, place: usize, word: u32, receive: &mut [u8])
     ensures { receive.new ≡ cond keep (set receive.old place (received word)) receive.old }
 {
@@ -42,7 +32,7 @@ pub(crate) fn advance(
     match call.wants(byte_at(send, call.count))? {
         Next::Read { number, keep } => {
             let word = words.first().copied().ok_or(End::OutOfWords)?;
-            enter(number, word, log)?;
+            write_log(log, &[number, word]).or(Err(End::LogFull))?;
             keep_byte(keep, call.count, word, receive);
             Ok(Progress {
                 parked: call.after(word),
@@ -51,7 +41,7 @@ pub(crate) fn advance(
             })
         }
         Next::Write { number, word } => {
-            enter(number, word, log)?;
+            write_log(log, &[number, word]).or(Err(End::LogFull))?;
             Ok(Progress {
                 parked: call.after(0),
                 taken: 0,

@@ -1,7 +1,7 @@
 // The configuration, its timing word, and the SCL period.
 #![tactic(auto)]
 
-ghost use Rattle.std.specs.Prelude.{◌≡◌, true, false, ◌<◌, ◌≤◌, None, Some, IfErr};
+ghost use Rattle.std.specs.Prelude.{◌≡◌, true, false, ◌<◌, ◌≤◌, None, Some, ok_or, IfErr};
 ghost use Rattle.config.specs.Config.{mask_number, mask_of, plain, with_filters, with_own_address, with_second_address, filtered, mode_word, at_quotient, at_speed, timing_bits, said_timing, period};
 
 use answers::Refusal;
@@ -74,24 +74,22 @@ fn timing_word(mode: Mode, scll: u32) -> u32
 }
 
 // The quotient of clock and speed is too small where the clock is too slow for the speed.
-fn at_quotient(mode: Mode, q: u32) -> Result<u32, Refusal>
+fn at_quotient(mode: Mode, q: u32) -> Option<u32>
     requires { (mode.shorter < mode.least) × (mode.shorter ≤ 255) }
-    ensures word { said_timing result ≡ at_quotient mode q }
-    ensures no_rate { IfErr result (λ refusal. refusal ≡ Refusal.NoRate) }
+    ensures { said_timing (ok_or result Refusal.NoRate) ≡ at_quotient mode q }
 {
     if q < mode.least {
-        return Err(Refusal::NoRate);
+        return None;
     }
-    Ok(timing_word(mode, (q - 1).min(255)))
+    Some(timing_word(mode, (q - 1).min(255)))
 }
 
-// The timing word for a speed.
-fn at_speed(clock: u32, speed: u32) -> Result<u32, Refusal>
-    ensures word { said_timing result ≡ at_speed clock speed }
-    ensures no_rate { IfErr result (λ refusal. refusal ≡ Refusal.NoRate) }
+// The timing word for a speed, if it has a rate at this clock.
+fn at_speed(clock: u32, speed: u32) -> Option<u32>
+    ensures { said_timing (ok_or result Refusal.NoRate) ≡ at_speed clock speed }
 {
     if speed == 0 {
-        return Err(Refusal::NoRate);
+        return None;
     }
     let mode = Mode::of(speed);
     at_quotient(mode, clock / 2 / (mode.presc + 1) / speed)
@@ -198,10 +196,9 @@ impl Config {
         ensures word { said_timing result ≡ timing_bits self clock }
         ensures no_rate { IfErr result (λ refusal. refusal ≡ Refusal.NoRate) }
     {
-        if let Some(bits) = self.timing {
-            return Ok(bits);
-        }
-        at_speed(clock, self.speed.ok_or(Refusal::NoRate)?)
+        self.timing
+            .or_else(|| self.speed.and_then(|speed| at_speed(clock, speed)))
+            .ok_or(Refusal::NoRate)
     }
 
     // The SCL period of a timing word, in clock cycles.

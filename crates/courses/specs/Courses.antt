@@ -7,16 +7,17 @@ use Rattle.wanted.specs.declared.Wanted.TheVariants.{Txis, Rxne}
 use Rattle.wanted.specs.declared.Found.TheVariants.{Stopf as MetStopf}
 use Rattle.wanted.specs.Found.{found_in}
 use Rattle.phases.specs.declared.Kind.{Kind}
-use Rattle.phases.specs.declared.Kind.TheVariants.{WriteRead}
 use Rattle.phases.specs.declared.End.{End}
 use Rattle.phases.specs.declared.Phase.TheVariants.{Wait}
 use Rattle.phases.specs.Kinds.{incoming, restarts}
 use Rattle.parked.specs.declared.Parked.{Parked}
+use Rattle.parked.specs.Wants.{more}
 use Rattle.parked.specs.After.{answer}
 use Rattle.runs.specs.Run.{stopped, runs}
 use Rattle.stretches.specs.declared.Progress.{Progress}
 use Rattle.stretches.specs.Stretches.{Carried, counted}
 use Rattle.courses.specs.declared.Followed.{Followed}
+use Rattle.courses.specs.declared.Waiting.{Waiting}
 
 -- a call with nothing taken and nothing logged
 abbrev pub fresh : Parked → Progress
@@ -31,8 +32,8 @@ waiting p n t g = record {
 }
 
 -- a call came to its wait, or nothing was done
-abbrev pub Opens : Option Progress → List ℕ → List ℕ → List ℕ → List ℕ → Parked → List ℕ → List ℕ → Type 0
-Opens (Some r) s ws log b p log' b' = (r ≡ waiting p r.parked.count r.taken r.logged) × Carried s ws log b (fresh p) log' b' r
+abbrev pub Opens : Option Waiting → List ℕ → List ℕ → List ℕ → List ℕ → Parked → List ℕ → List ℕ → Type 0
+Opens (Some w) s ws log b p log' b' = let r = w.progress in (r ≡ waiting p r.parked.count r.taken r.logged) × Carried s ws log b (fresh p) log' b' r
 Opens None s ws log b p log' b' = (log' ≡ log) × (b' ≡ b)
 
 -- a byte comes in next, and has its place
@@ -52,7 +53,7 @@ pub record Heard (ws log b : List ℕ) (p : Progress) (log' b' : List ℕ) (r : 
 -- TC, where it is awaited, and the second START are in the log, or nothing was done
 abbrev pub Restarted : Bool → Progress → List ℕ → List ℕ → List ℕ → Type 0
 Restarted true p ws log log' =
-    (p.parked.kind ≡ WriteRead) × (p.parked.send ≤ p.parked.count) × (p.taken < length ws) × (p.logged + 4 ≤ length log) × (get_or ws p.taken 0 has TC ≡ true)
+    (restarts p.parked.kind ≡ true) × (more p.parked ≡ false) × (p.taken < length ws) × (p.logged + 4 ≤ length log) × (get_or ws p.taken 0 has TC ≡ true)
     × (log' ≡ sets log p.logged (offset ISR ∷ get_or ws p.taken 0 ∷ (offset CR2 + 0x100) ∷ started 0 (sadd8 p.parked.address) p.parked.receive true true ∷ []))
 Restarted false p ws log log' = log' ≡ log
 

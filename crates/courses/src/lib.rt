@@ -2,6 +2,9 @@
 // Whatever else comes is left to the transfer loop.
 #![tactic(auto)]
 
+ghost use Rattle.std.specs.Prelude.{◌≡◌};
+ghost use Rattle.phases.specs.declared.Phase.TheVariants.{Wait};
+
 use parked::End;
 use stretches::Progress;
 
@@ -14,4 +17,11 @@ mod opening;
 pub struct Followed {
     pub progress: Progress,
     pub end: Option<End>,
+}
+
+// How far a run is whose call waits.
+#[derive(Clone, Copy)]
+struct Waiting {
+    progress: Progress,
+    ghost waits: { progress.parked.phase ≡ Wait },
 }

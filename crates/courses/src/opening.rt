@@ -5,6 +5,7 @@ ghost use Rattle.fields.specs.Words.{started, flushed, sadd8};
 ghost use Rattle.stretches.specs.Polls.{Put};
 ghost use Rattle.courses.specs.Courses.{Opens, Hears, waiting};
 
+use crate::Waiting;
 use cr2::Cr2;
 use data_registers::Rxdr;
 use flags::Isr;
@@ -12,7 +13,7 @@ use parked::{Kind, Opening, Parked, Phase};
 use stretches::Progress;
 use stretches::polls::put_at;
 
-// START is clear, and a `modify` of CR2.
+// START is clear, and a `modify` of CR2. Like `put_at`, each of these answers with a `bool`: with no room nothing is done.
 fn open_write(call: Parked, first: u32, cr2: u32, log: &mut [u32]) -> bool
     ensures { Put (offset CR2 ∷ first ∷ offset CR2 ∷ cr2 ∷ (offset CR2 + 0x100) ∷ started cr2 (sadd8 call.address) call.send false true ∷ []) log.old 0 result log.new }
 {
@@ -65,21 +66,23 @@ fn open_write_read(call: Parked, first: u32, log: &mut [u32]) -> bool
 }
 
 // A call that came to its wait.
-fn waits(call: Parked, taken: usize, logged: usize) -> Progress
-    ensures { result ≡ waiting call call.count taken logged }
+fn waits(call: Parked, taken: usize, logged: usize) -> Waiting
+    ensures { result.progress ≡ waiting call call.count taken logged }
 {
-    Progress {
-        parked: Parked {
-            phase: Phase::Wait,
-            ..call
+    Waiting {
+        progress: Progress {
+            parked: Parked {
+                phase: Phase::Wait,
+                ..call
+            },
+            taken,
+            logged,
         },
-        taken,
-        logged,
     }
 }
 
 // A master's call that begins.
-fn started(call: Parked, words: &[u32], log: &mut [u32]) -> Option<Progress>
+fn started(call: Parked, words: &[u32], log: &mut [u32]) -> Option<Waiting>
     requires { call.phase ≡ Phase.Open Opening.Start }
     ensures { (s b : List ℕ) → Opens result s words.now log.old b call log.new b }
 {
@@ -98,14 +101,15 @@ fn started(call: Parked, words: &[u32], log: &mut [u32]) -> Option<Progress>
 }
 
 // Whether a byte comes in next, and has its place.
+#[tactic(auto, using(crate::proofs::Parts::hears_more))]
 pub(crate) fn hears(call: Parked) -> bool
     ensures { Hears result call }
 {
-    call.kind.incoming() && call.count < call.receive
+    call.kind.incoming() && call.more()
 }
 
 // A call that parked at its byte: it comes in first.
-fn resumed(call: Parked, receive: &mut [u8], words: &[u32], log: &mut [u32]) -> Option<Progress>
+fn resumed(call: Parked, receive: &mut [u8], words: &[u32], log: &mut [u32]) -> Option<Waiting>
     requires { (call.phase ≡ Phase.Transfer) × (call.receive ≡ length receive.old) }
     ensures { (s : List ℕ) → Opens result s words.now log.old receive.old call log.new receive.new }
 {
@@ -129,7 +133,7 @@ pub(crate) fn opened(
     receive: &mut [u8],
     words: &[u32],
     log: &mut [u32],
-) -> Option<Progress>
+) -> Option<Waiting>
     requires { call.receive ≡ length receive.old }
     ensures { (s : List ℕ) → Opens result s words.now log.old receive.old call log.new receive.new }
 {

@@ -11,6 +11,7 @@ use fields::Field;
 pub struct Cr2;
 
 impl Cr2 {
+    // Why no trait gives a register its numbers: see `Field`.
     pub const OFFSET: u32 = 0x04;
 
     pub const READ: u32 = Cr2::OFFSET;

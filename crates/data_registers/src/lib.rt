@@ -10,6 +10,7 @@ use fields::Field;
 pub struct Rxdr;
 
 impl Rxdr {
+    // Why no trait gives a register its numbers: see `Field`.
     pub const OFFSET: u32 = 0x24;
 
     pub const READ: u32 = Rxdr::OFFSET;
@@ -27,6 +28,7 @@ impl Rxdr {
 pub struct Txdr;
 
 impl Txdr {
+    // Why no trait gives a register its numbers: see `Field`.
     pub const OFFSET: u32 = 0x28;
 
     pub const WRITE: u32 = Txdr::OFFSET + 0x100;

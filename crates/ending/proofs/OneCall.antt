@@ -20,7 +20,7 @@ use Rattle.ending.specs.EqualEnding.{hide, hide_shown, hide_told, Sourced}
 use Rattle.access.proofs.Lists.{zeros_same, take_same}
 use Rattle.ending.proofs.Agree.{Phase, Own, Agree, Twins, twins, own_over, with_errors, told_agree, both_at, front_same, opened_agree, written_agree}
 use Rattle.ending.proofs.OneCheck.{seen_as, flag_tail, nothing_shown}
-use Rattle.ending.proofs.GoodLength.{good_255}
+use Rattle.ending.proofs.Outcomes.{good_255}
 
 -- one call as it is seen in both runs, and the links after it
 pub record Alike (b : Book) (s₁ s₂ : Event) (k₁ k₂ : Link) : Type 0 where

@@ -42,7 +42,7 @@ pub record Tail (f : Flag) (isr : ℕ) (b : Book) (p₁ p₂ : Plan) : Type 0 wh
   pub places : length (entries p₁.accesses) ≡ length (entries p₂.accesses)
   pub same : T (clean_flag f b) → SameTail f isr b p₁ p₂
 
--- both of two tests that hold together
+-- both of two tests that hold together; the library's `and_parts` says it of `≡ true`, not of `T`
 pub and_left : (x y : Bool) → T (x && y) → T x
 and_left true y t = tt
 and_left false y t = t

@@ -1,12 +1,11 @@
 -- One step, made of two links that agree: 12, 9 and 10 are answered alike, and else it goes by the plan.
-use Prim.Native.Nat.{ℕ, ◌≤◌}
+use Prim.Native.Nat.{ℕ}
 use mathlib.Core.Path.{◌≡◌, refl, subst₂}
 use mathlib.Core.Bool.{Bool, true, false, ◌||◌}
 use mathlib.Core.List.{List}
-use native.Mathlib.Omega.{arith}
 use lib.ListN.{length, get_or}
 use lib.Dec.{T, ltb, leb}
-use borrow.Author.Tests.{ltb-false}
+use Rattle.std.proofs.lemmas.Bool.{or_parts}
 use Rattle.access.specs.Access.{Access, reads, entries}
 use Rattle.limits.specs.Limits.{impossible_at}
 use Rattle.ending.specs.Link.{Link}
@@ -17,26 +16,15 @@ use Rattle.ending.specs.Outcome.{Outcome, settle, plan_at, outcome}
 use Rattle.ending.specs.Book.{Book, event_of, clean}
 use Rattle.ending.proofs.Agree.{Twins, twins}
 use Rattle.ending.proofs.OneCall.{Alike, Both, call_both}
+use Rattle.ending.proofs.Outcomes.{length_255}
 
 -- two outcomes of a call are alike
 abbrev pub AlikeAt : Call → Book → Outcome → Outcome → Type 0
 AlikeAt call b o₁ o₂ = Alike b (event_of call o₁) (event_of call o₂) o₁.link o₂.link
 
--- neither of two tests of which not one holds
-or_left : (x y : Bool) → (x || y) ≡ false → x ≡ false
-or_left true y e = e
-or_left false y e = refl
-
-or_right : (x y : Bool) → (x || y) ≡ false → y ≡ false
-or_right true y e = let z : ◌≡◌ {A = ℕ} 0 1 = cc in absurd (omega arith)
-or_right false y e = e
-
--- a possible link: length and second-half length are at most 255
-possible_length : (i n h w : ℕ) → impossible_at i n h w ≡ false → n ≤ 255
-possible_length i n h w q = ltb-false 255 n (or_right (ltb n i) (ltb 255 n) (or_left (ltb n i || ltb 255 n) (ltb 255 h) (or_left (ltb n i || ltb 255 n || ltb 255 h) (ltb 10 w) q)))
-
+-- the second-half length of a possible link is at most 255
 pub possible_second : (i n h w : ℕ) → impossible_at i n h w ≡ false → ltb 255 h ≡ false
-possible_second i n h w q = or_right (ltb n i || ltb 255 n) (ltb 255 h) (or_left (ltb n i || ltb 255 n || ltb 255 h) (ltb 10 w) q)
+possible_second i n h w q = (or_parts (ltb n i || ltb 255 n) (ltb 255 h) (or_parts (ltb n i || ltb 255 n || ltb 255 h) (ltb 10 w) q).0).1
 
 -- a refusal is seen alike and changes nothing; what is not refused goes by the plan
 settle_alike : (call : Call) (b : Book) (p₁ p₂ : Plan) (l₁ l₂ : Link) (t enough fits : Bool) → Twins b l₁ l₂ → (t ≡ false → Both call b p₁ p₂) →
@@ -68,6 +56,6 @@ step_alike s b l₁ l₂ (twins c {e₁ = e₁} {e₂ = e₂} {h₁ = h₁} {h�
     rw (← A.own.possible)
     (settled_alike s.call b (plan_at s (link_of c e₁ h₁ d₁)) (plan_at s (link_of c e₂ h₂ d₂)) s.words s.places (link_of c e₁ h₁ d₁) (link_of c e₂ h₂ d₂)
     (impossible_at c.index c.length h₁ c.watchdog) (twins c A)
-    (λ q. call_both b c e₁ e₂ h₁ h₂ d₁ d₂ A (possible_length c.index c.length h₁ c.watchdog q)
+    (λ q. call_both b c e₁ e₂ h₁ h₂ d₁ d₂ A (length_255 c.index c.length h₁ c.watchdog q)
     s.call (get_or s.words 0 0) (get_or s.words 1 0) (get_or s.words 2 0))
     t)

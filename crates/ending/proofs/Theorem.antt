@@ -20,7 +20,7 @@ use Rattle.ending.specs.EqualEnding.{ran, seen, compared, Clean, AllSourced, ste
 use Rattle.access.proofs.Lists.{zeros_same}
 use Rattle.ending.proofs.Agree.{Own, Twins, twins, own_over, opened_agree, written_agree}
 use Rattle.ending.proofs.OneCheck.{seen_as}
-use Rattle.ending.proofs.GoodLength.{good_255}
+use Rattle.ending.proofs.Outcomes.{good_255}
 use Rattle.ending.proofs.OneStep.{possible_second, step_alike}
 use Rattle.ending.proofs.Histories.{history_room}
 

@@ -13,7 +13,7 @@ use Rattle.ending.specs.Link.{fresh}
 use Rattle.nonblocking.specs.declared.Link.{Link}
 use Rattle.nonblocking.specs.Model.{model}
 use Rattle.construction.specs.Drivers.{non_blocking_construction}
-use Rattle.ffi.specs.Renewed.{Renewed}
+use Rattle.nonblocking.specs.Construct.{Renewed}
 
 -- where nothing is logged, each part of the link stays
 refusal_leaves : (c : Config) (clock : ℕ) (words before : List ℕ) (r : Report) (l l' : Link) (after : List ℕ) → Renewed c clock words before r l l' after → eqb r.logged 0 ≡ true →

@@ -1,6 +1,6 @@
 // The calls that change a link, on a link in the caller's memory.
 ghost use Rattle.std.specs.Prelude.{ℕ, List, length as size};
-ghost use Rattle.ffi.specs.Renewed.{Renewed};
+ghost use Rattle.nonblocking.specs.Construct.{Renewed};
 ghost use Rattle.ending.specs.Call.{check_isr_flags, master_write, master_write_read, master_read, slave_write, execute_watchdog, get_errors_reset};
 ghost use Rattle.ending.specs.Outcome.{outcome, Matches};
 ghost use Rattle.nonblocking.specs.Model.{model};

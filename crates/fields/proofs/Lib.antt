@@ -1,4 +1,3 @@
 pub mod FieldLaws
 pub mod ShiftAndMask
 pub mod Places
-pub mod Past

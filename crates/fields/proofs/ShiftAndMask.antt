@@ -54,13 +54,13 @@ put_runs w p k v h l =
     rw e (mod-eq_of_lt (with_field_lt w k p v h l))
 
 -- a field that begins past the word
-pub put_past : (w p n v : ℕ) → 32 ≤ p → w < 2 ^ 32 → put w (at p n) v ≡ w
+pub put_past : (w : ℕ) (f : Field) (v : ℕ) → 32 ≤ f.place → w < 2 ^ 32 → put w f v ≡ w
 unfolding put get
-put_past w p n v h l =
-    let e : p - 32 + 32 ≡ p = omega arith in
-    let z : w / 2 ^ p ≡ 0 = div-eq_of_lt (lt_of_lt_of_le l (pow_mono h)) in
-    rw (z, zero-mod (2 ^ n), zero-mul, sub-zero, sym e, pow-add 2 (p - 32) 32, sym (mul_assoc (v % 2 ^ n) (2 ^ (p - 32)) (2 ^ 32)))
-    (add-mul-mod_self_right w (v % 2 ^ n * 2 ^ (p - 32)) (2 ^ 32) ∙ mod-eq_of_lt l)
+put_past w f v h l =
+    let e : f.place - 32 + 32 ≡ f.place = omega arith in
+    let z : w / 2 ^ f.place ≡ 0 = div-eq_of_lt (lt_of_lt_of_le l (pow_mono h)) in
+    rw (z, zero-mod (2 ^ f.width), zero-mul, sub-zero, sym e, pow-add 2 (f.place - 32) 32, sym (mul_assoc (v % 2 ^ f.width) (2 ^ (f.place - 32)) (2 ^ 32)))
+    (add-mul-mod_self_right w (v % 2 ^ f.width * 2 ^ (f.place - 32)) (2 ^ 32) ∙ mod-eq_of_lt l)
 
 -- a field that runs past the word's end is the part of it that lies in the word
 module _ (w p n : ℕ) (starts : p < 32) (past : 32 ≤ n + p) (fits : w < 2 ^ 32) where
@@ -169,6 +169,6 @@ module _ (w p n : ℕ) (starts : p < 32) (fits : w < 2 ^ 32) where
   put_code v = put_inside w p (min n (32 - p)) inner_inside fits v ∙ put_inner v
 
 -- a field that begins past the word reads as 0
-pub get_past : (w p n : ℕ) → 32 ≤ p → w < 2 ^ 32 → get w (at p n) ≡ 0
+pub get_past : (w : ℕ) (f : Field) → 32 ≤ f.place → w < 2 ^ 32 → get w f ≡ 0
 unfolding get
-get_past w p n h l = rw (div-eq_of_lt (lt_of_lt_of_le l (pow_mono h))) (zero-mod (2 ^ n))
+get_past w f h l = rw (div-eq_of_lt (lt_of_lt_of_le l (pow_mono h))) (zero-mod (2 ^ f.width))

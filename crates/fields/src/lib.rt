@@ -5,7 +5,7 @@ ghost use Rattle.std.specs.Prelude.{◌≡◌, ◌-◌, ◌<◌, ◌^◌, min};
 ghost use Rattle.fields.specs.Field.{digit, get, put, is_set};
 
 // The `width` bits of a word from bit `place` on. A register's own numbers (OFFSET, READ, WRITE) are written at each register: the constant
-// that a trait provides has no value in the proof of a caller.
+// that a trait provides has no value in the proof of a caller, and one that each register gives with its ghost takes more lines than this.
 #[derive(Clone, Copy, Debug, PartialEq, Eq)]
 pub struct Field {
     pub place: u32,
@@ -27,7 +27,7 @@ impl Field {
     }
 
     // The field's value. Bits past the word's end read as 0.
-    #[tactic(auto, using(crate::proofs::ShiftAndMask::get_code, crate::proofs::FieldLaws::get_lt))]
+    #[tactic(auto, using(crate::proofs::ShiftAndMask::get_code, crate::proofs::ShiftAndMask::get_past, std::proofs::lemmas::Nat::pow_pos, crate::proofs::FieldLaws::get_lt))]
     pub fn get(self, word: u32) -> u32
         ensures { (result ≡ get word self) × (result < 2 ^ self.width) }
     {
@@ -38,7 +38,7 @@ impl Field {
     }
 
     // The word with the value's low bits in the field. Bits past the word's end are lost.
-    #[tactic(auto, using(crate::proofs::ShiftAndMask::put_code))]
+    #[tactic(auto, using(crate::proofs::ShiftAndMask::put_code, crate::proofs::ShiftAndMask::put_past))]
     pub fn put(self, word: u32, value: u32) -> u32
         ensures { result ≡ put word self value }
     {
@@ -50,7 +50,7 @@ impl Field {
     }
 
     // The word with the field's bits clear.
-    #[tactic(auto, using(crate::proofs::ShiftAndMask::clear_code))]
+    #[tactic(auto, using(crate::proofs::ShiftAndMask::clear_code, crate::proofs::ShiftAndMask::put_past))]
     pub fn clear(self, word: u32) -> u32
         ensures { result ≡ put word self 0 }
     {

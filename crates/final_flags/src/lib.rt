@@ -9,7 +9,7 @@ use flags::Isr;
 use phases::{Kind, Phase};
 
 // The length that a final flag compares with the count, of a call that counts to `span` and has a byte left or not (`more`). The wait for TC
-// has a dummy.
+// has a dummy. The three stay arguments: a struct of them would be made from the parked call at each call and taken apart at once.
 pub fn compared(kind: Kind, more: bool, span: usize) -> usize
     ensures { result ≡ compared kind more span }
 {

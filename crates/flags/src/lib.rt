@@ -34,6 +34,7 @@ impl From<u8> for Event {
 pub struct Isr;
 
 impl Isr {
+    // Why no trait gives a register its numbers: see `Field`.
     pub const OFFSET: u32 = 0x18;
 
     pub const READ: u32 = Isr::OFFSET;
@@ -111,6 +112,7 @@ impl Isr {
 pub struct Icr;
 
 impl Icr {
+    // Why no trait gives a register its numbers: see `Field`.
     pub const OFFSET: u32 = 0x1C;
 
     pub const WRITE: u32 = Icr::OFFSET + 0x100;

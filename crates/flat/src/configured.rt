@@ -4,6 +4,7 @@ ghost use Rattle.flat.specs.Configured.{config_of};
 
 use config::{Config, SlaveAddressMask};
 
+// `Config` is of a crate below, so that no `From` can stand here.
 pub fn config_of(numbers: &[u32; 10]) -> Config
     ensures { result ≡ config_of numbers.now }
 {

@@ -9,6 +9,7 @@ use parked::{End, Opening, Parked, Phase};
 pub mod taken;
 
 // What is laid down is taken up again.
+#[tactic(auto, using(crate::proofs::Back::kept_call))]
 pub fn kept_call()
     ensures { KeptCall }
 {}

@@ -1,14 +1,13 @@
 // The interrupts of the blocking driver, by event. None of these calls waits.
-ghost use Rattle.std.specs.Prelude.{length, ◌≡◌, Bool, [], ◌∷◌, get_or};
-ghost use Rattle.access.specs.Access.{Reported, settle};
-ghost use Rattle.answers.specs.Answers.{says};
+ghost use Rattle.std.specs.Prelude.{length, ◌≡◌, Bool};
+ghost use Rattle.access.specs.Access.{Reported};
 ghost use Rattle.never_wait.specs.NeverWait.{interrupt_word, interrupt, clear_irq};
 
 use access::Report;
 use answers::Answer;
 use flags::{Event, Icr, Isr};
 use registers::cr1::Cr1;
-use settling::{settle, word_at};
+use settling::{settle, try_modify, word_at};
 
 // The event's interrupt switched in CR1.
 fn switched(event: Event, cr1: u32, on: bool) -> u32
@@ -23,20 +22,8 @@ fn switched(event: Event, cr1: u32, on: bool) -> u32
 fn switch(event: Event, on: bool, words: &[u32], log: &mut [u32]) -> Report
     ensures { Reported (interrupt event on words.now (length log.old)) log.old result log.new }
 {
-    cr1_written(switched(event, word_at(words, 0), on), words, log)
-}
-
-// A `modify` of CR1: it was read, and is written.
-pub(crate) fn cr1_written(cr1: u32, words: &[u32], log: &mut [u32]) -> Report
-    ensures { Reported (settle (says 0 []) 1 (0x00 ∷ get_or words.now 0 0 ∷ 0x100 ∷ cr1 ∷ []) (length words.now) (length log.old)) log.old result log.new }
-{
-    settle(
-        Answer::Done,
-        1,
-        &[Cr1::READ, word_at(words, 0), Cr1::WRITE, cr1],
-        words,
-        log,
-    )
+    let cr1 = switched(event, word_at(words, 0), on);
+    try_modify(Cr1::READ, Cr1::WRITE, cr1, words, log).unwrap_or_else(Report::from)
 }
 
 pub fn listen(event: Event, words: &[u32], log: &mut [u32]) -> Report

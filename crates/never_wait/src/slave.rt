@@ -3,14 +3,14 @@ ghost use Rattle.std.specs.Prelude.{length};
 ghost use Rattle.access.specs.Access.{Reported};
 ghost use Rattle.never_wait.specs.NeverWait.{slave_sbc};
 
-use crate::interrupts::cr1_written;
 use access::Report;
 pub use addressing::slave_addressed;
 use registers::cr1::Cr1;
-use settling::word_at;
+use settling::{try_modify, word_at};
 
 pub fn slave_sbc(sbc_enabled: bool, words: &[u32], log: &mut [u32]) -> Report
     ensures { Reported (slave_sbc sbc_enabled words.now (length log.old)) log.old result log.new }
 {
-    cr1_written(Cr1::SBC.switch(word_at(words, 0), sbc_enabled), words, log)
+    let cr1 = Cr1::SBC.switch(word_at(words, 0), sbc_enabled);
+    try_modify(Cr1::READ, Cr1::WRITE, cr1, words, log).unwrap_or_else(Report::from)
 }

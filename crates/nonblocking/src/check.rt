@@ -6,11 +6,12 @@ ghost use Rattle.nonblocking.specs.Model.{model};
 ghost use Rattle.nonblocking.specs.Made.{Made};
 
 use crate::steps::frame::on_tcr;
-use crate::steps::{on_arlo, on_nackf, on_nothing};
+use crate::steps::{cleared, looked};
 use crate::{Called, Link};
 use access::Report;
-use answers::Refusal;
+use answers::{Answer, Refusal};
 use flag_order::{Flag, taken_as};
+use flags::Isr;
 use settling::word_at;
 
 impl Link {
@@ -29,15 +30,17 @@ impl Link {
         self.possible()?;
         match taken_as(word_at(words, 0)) {
             Flag::Berr => self.on_berr(words, log),
-            Flag::Arlo => on_arlo(words, log),
-            Flag::Nackf => on_nackf(words, log),
+            // A lost bus is not counted as an error.
+            Flag::Arlo => cleared(Answer::ArbitrationLost, Isr::ARLO, words, log),
+            // The stop condition is yet to come.
+            Flag::Nackf => cleared(Answer::Pending, Isr::NACKF, words, log),
             Flag::Txis => self.on_txis(words, log),
             Flag::Rxne => self.on_rxne(words, log),
             Flag::Stopf => self.on_stopf(words, log),
             Flag::Tc => self.on_tc(words, log),
             Flag::Tcr => on_tcr(words, log),
             Flag::Addr => self.on_addr(words, log),
-            Flag::Nothing => on_nothing(words, log),
+            Flag::Nothing => looked(Answer::Pending, Isr::READ, words, log),
         }
     }
 }

@@ -3,7 +3,7 @@ ghost use Rattle.std.specs.Prelude.{◌≡◌, ◌<◌, IfOk, length};
 ghost use Rattle.construction.specs.Drivers.{own_ten_or_seven, non_blocking_construction};
 ghost use Rattle.access.specs.Access.{Reported};
 ghost use Rattle.access.specs.Reports.{report_of};
-ghost use Rattle.nonblocking.specs.Construct.{Constructed};
+ghost use Rattle.nonblocking.specs.Construct.{Constructed, Renewed};
 
 use crate::{Called, Link};
 use access::Report;
@@ -19,15 +19,25 @@ impl Link {
     {
         Called::of(Link::new(), try_i2c1(config, clock, words, log))
     }
+
+    // The same on a link that is there already: it is a fresh one then, and as it was where the set-up is refused.
+    pub fn renew(
+        &mut self,
+        config: Config,
+        clock: u32,
+        words: &[u32],
+        log: &mut [u32],
+    ) -> Result<Report, Refusal>
+        ensures { Renewed config clock words.now log.old (report_of result) self.old self.new log.new }
+    {
+        let report = try_i2c1(config, clock, words, log)?;
+        *self = Link::new();
+        Ok(report)
+    }
 }
 
-// The set-up alone, which comes with a fresh link where it is not refused.
-pub fn try_i2c1(
-    config: Config,
-    clock: u32,
-    words: &[u32],
-    log: &mut [u32],
-) -> Result<Report, Refusal>
+// The set-up alone.
+fn try_i2c1(config: Config, clock: u32, words: &[u32], log: &mut [u32]) -> Result<Report, Refusal>
     ensures report { Reported (non_blocking_construction config clock words.now (length log.old)) log.old (report_of result) log.new }
     ensures logged { IfOk result (λ report. 0 < report.logged) }
 {

@@ -1,8 +1,6 @@
 // Interrupts, the watchdog and the error count: `listen`, `unlisten`, `execute_watchdog`, `get_errors_reset`.
-ghost use Rattle.std.specs.Prelude.{◌≡◌, true, false, ℕ, List, length as size, get_or, [], ◌∷◌};
+ghost use Rattle.std.specs.Prelude.{◌≡◌, true, false, ℕ, List, length as size, get_or};
 ghost use Rattle.access.specs.Reports.{report_of};
-ghost use Rattle.answers.specs.Answers.{says};
-ghost use Rattle.ending.specs.Arms.{Settles};
 ghost use Rattle.ending.specs.Link.{impossible};
 ghost use Rattle.ending.specs.Plan.{interrupt_plan};
 ghost use Rattle.ending.specs.Call.{listen, unlisten, execute_watchdog, get_errors_reset};
@@ -13,7 +11,7 @@ use crate::{Called, Link};
 use access::Report;
 use answers::{Answer, Refusal};
 use registers::cr1::Cr1;
-use settling::{try_settle, word_at};
+use settling::{try_modify, word_at};
 use std::mem;
 
 impl Link {
@@ -66,14 +64,7 @@ impl Link {
         ensures { Matches (settled (impossible (model self.now)) (interrupt_plan on (get_or words.now 0 0) (model self.now)) words.now (size log.old) (model self.now)) (report_of result) (model self.now) log.old log.new }
     {
         self.possible()?;
-        cr1_written(Cr1::interrupts(word_at(words, 0), on), words, log)
+        let cr1 = Cr1::interrupts(word_at(words, 0), on);
+        try_modify(Cr1::READ, Cr1::WRITE, cr1, words, log)
     }
-}
-
-// A `modify` of CR1: it was read, and is written.
-pub(crate) fn cr1_written(cr1: u32, words: &[u32], log: &mut [u32]) -> Result<Report, Refusal>
-    ensures { Settles (says 0 []) 1 (0x00 ∷ get_or words.now 0 0 ∷ 0x100 ∷ cr1 ∷ []) words.now log.old result log.new }
-{
-    let entries = [Cr1::READ, word_at(words, 0), Cr1::WRITE, cr1];
-    try_settle(Answer::Done, 1, &entries, words, log)
 }

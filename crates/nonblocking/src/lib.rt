@@ -1,9 +1,10 @@
 // The non-blocking driver: the link, and the two statements that this crate promises. The calls are in the modules.
 #![tactic(auto)]
 
-ghost use Rattle.std.specs.Prelude.{◌≡◌, ◌≤◌, true, false, IfErr, OnErr, OnOk};
+ghost use Rattle.std.specs.Prelude.{◌≡◌, ◌≤◌, true, false, IfErr, OnErr, OnOk, length};
 ghost use Rattle.bench_table.specs.BenchTable.{BenchTable};
 ghost use Rattle.limits.specs.Limits.{one_more};
+ghost use Rattle.access.specs.Access.{over};
 ghost use Rattle.access.specs.Reports.{report_of};
 ghost use Rattle.ending.specs.EqualEnding.{EqualEnding};
 ghost use Rattle.ending.specs.Link.{fresh, impossible};
@@ -11,7 +12,6 @@ ghost use Rattle.nonblocking.specs.Model.{model};
 
 use access::Report;
 use answers::Refusal;
-use limits::impossible;
 
 pub mod check;
 pub mod construct;
@@ -85,12 +85,8 @@ impl Link {
         ensures err { OnErr result (impossible (model self.now) ≡ true) }
         ensures refusal { IfErr result (λ refusal. refusal ≡ Refusal.ImpossibleLink) }
     {
-        if impossible(
-            self.index,
-            self.length,
-            self.length_write_read,
-            self.watchdog,
-        ) {
+        let past_the_buffer = 255 < self.length || 255 < self.length_write_read;
+        if self.length < self.index || past_the_buffer || 10 < self.watchdog {
             return Err(Refusal::ImpossibleLink);
         }
         Ok(())
@@ -106,6 +102,15 @@ impl Link {
         self.length = length;
     }
 
+    // Bytes go to the front of the buffer.
+    #[tactic(auto, using(access::proofs::Over::over_front))]
+    fn keep(&mut self, bytes: &[u8])
+        requires { length bytes.now ≤ 255 }
+        ensures { self.new ≡ record self.old { «data» = over bytes.now self.old.«data» } }
+    {
+        self.data[..bytes.len()].copy_from_slice(bytes);
+    }
+
     // One more error; the count stops at its top.
     #[tactic(auto, unfolding(limits::specs::Limits::one_more))]
     fn count_error(&mut self)
@@ -116,11 +121,13 @@ impl Link {
 }
 
 // The equal-ending statement, as a promise of this crate: two links that take one start end alike, and no stale byte is shown.
+#[tactic(auto, using(ending::proofs::Theorem::equal_ending))]
 pub fn equal_ending()
     ensures { EqualEnding }
 {}
 
 // Document 01's bench table, as a promise: every row of it holds of the definitions that the contracts cite.
+#[tactic(auto, using(bench_table::proofs::Theorem::bench_table))]
 pub fn bench_table()
     ensures { BenchTable }
 {}

@@ -1,7 +1,7 @@
-// The accesses of a master's starts: what is read first, a write, a read.
+// The accesses of a master's starts: a write, a read.
 ghost use Rattle.std.specs.Prelude.{true, false, [], ◌∷◌, get_or};
 ghost use Rattle.fields.specs.Words.{started, sadd16};
-ghost use Rattle.answers.specs.Answers.{said, says};
+ghost use Rattle.answers.specs.Answers.{says};
 ghost use Rattle.ending.specs.Arms.{Settles};
 
 use access::Report;
@@ -10,13 +10,6 @@ use cr2::Cr2;
 use data_registers::Rxdr;
 use settling::{try_settle, word_at};
 use transfer::read_again;
-
-// CR2 was read, and nothing follows.
-pub(crate) fn looked(answer: Answer, words: &[u32], log: &mut [u32]) -> Result<Report, Refusal>
-    ensures { Settles (said answer) 1 (0x04 ∷ get_or words.now 0 0 ∷ []) words.now log.old result log.new }
-{
-    try_settle(answer, 1, &[Cr2::READ, word_at(words, 0)], words, log)
-}
 
 // A write: CR2 is read again, and the start is formed from that word.
 pub(crate) fn write_opened(

@@ -9,7 +9,6 @@ ghost use Rattle.ending.specs.Outcome.{outcome, Matches};
 ghost use Rattle.nonblocking.specs.Model.{model};
 ghost use Rattle.nonblocking.specs.Made.{Made};
 
-use crate::control::cr1_written;
 use crate::{Called, Link};
 use access::Report;
 use answers::{Answer, Refusal};
@@ -18,7 +17,7 @@ use flags::{Icr, Isr};
 use limits::length_allowed;
 use registers::cr1::Cr1;
 use registers::oar::Oar1;
-use settling::{try_settle, word_at};
+use settling::{try_modify, try_settle, word_at};
 
 impl Link {
     // The bytes that the master is to read, after it addressed this slave. Without them the bus stays blocked.
@@ -64,7 +63,7 @@ impl Link {
         let report = slave_opened(n, words, log)?;
         self.index = 0;
         self.length = n;
-        self.data[..n].copy_from_slice(bytes);
+        self.keep(bytes);
         Ok(report)
     }
 
@@ -73,7 +72,8 @@ impl Link {
         ensures { Made (slave_sbc on) words.now self.now self.now result log.old log.new }
     {
         self.possible()?;
-        cr1_written(Cr1::SBC.switch(word_at(words, 0), on), words, log)
+        let cr1 = Cr1::SBC.switch(word_at(words, 0), on);
+        try_modify(Cr1::READ, Cr1::WRITE, cr1, words, log)
     }
 
     #[tactic(auto, unfolding(ending::specs::Outcome::outcome))]

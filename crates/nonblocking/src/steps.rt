@@ -1,14 +1,14 @@
 // The steps of a check, one for each flag. A step whose accesses are refused changes nothing.
 ghost use Rattle.std.specs.Prelude.{[], ◌∷◌, get_or};
-ghost use Rattle.fields.specs.Layout.{ARLO, NACKF};
-ghost use Rattle.fields.specs.Words.{cleared};
-ghost use Rattle.answers.specs.Answers.{said, says};
+ghost use Rattle.fields.specs.Field.{put};
+ghost use Rattle.answers.specs.Answers.{said};
 ghost use Rattle.ending.specs.Arms.{Arm, Settles};
 ghost use Rattle.nonblocking.specs.Model.{model};
 
 use crate::Link;
 use access::Report;
 use answers::{Answer, Refusal};
+use fields::Field;
 use flag_order::Flag;
 use flags::{Icr, Isr};
 use settling::{try_settle, word_at};
@@ -33,54 +33,35 @@ fn answered(
     try_settle(answer, reads, &entries, words, log)
 }
 
-// ISR was read and nothing follows.
-pub(crate) fn on_nothing(words: &[u32], log: &mut [u32]) -> Result<Report, Refusal>
-    ensures { Settles (says 1 []) 1 (0x18 ∷ get_or words.now 0 0 ∷ []) words.now log.old result log.new }
+// ISR was read, and this flag is cleared.
+pub(crate) fn cleared(
+    answer: Answer,
+    flag: Field,
+    words: &[u32],
+    log: &mut [u32],
+) -> Result<Report, Refusal>
+    ensures { Settles (said answer) 1 (0x18 ∷ get_or words.now 0 0 ∷ 0x11C ∷ put 0 flag 1 ∷ []) words.now log.old result log.new }
 {
-    let entries = [Isr::READ, word_at(words, 0)];
-    try_settle(Answer::Pending, 1, &entries, words, log)
+    answered(answer, 1, Icr::WRITE, Icr::cleared(flag), words, log)
 }
 
-// A lost bus is not counted as an error.
-pub(crate) fn on_arlo(words: &[u32], log: &mut [u32]) -> Result<Report, Refusal>
-    ensures { Settles (says 4 []) 1 (0x18 ∷ get_or words.now 0 0 ∷ 0x11C ∷ cleared ARLO ∷ []) words.now log.old result log.new }
+// One register was read, and nothing follows.
+pub(crate) fn looked(
+    answer: Answer,
+    register: u32,
+    words: &[u32],
+    log: &mut [u32],
+) -> Result<Report, Refusal>
+    ensures { Settles (said answer) 1 (register ∷ get_or words.now 0 0 ∷ []) words.now log.old result log.new }
 {
-    answered(
-        Answer::ArbitrationLost,
-        1,
-        Icr::WRITE,
-        Icr::cleared(Isr::ARLO),
-        words,
-        log,
-    )
-}
-
-// The stop condition is yet to come.
-pub(crate) fn on_nackf(words: &[u32], log: &mut [u32]) -> Result<Report, Refusal>
-    ensures { Settles (says 1 []) 1 (0x18 ∷ get_or words.now 0 0 ∷ 0x11C ∷ cleared NACKF ∷ []) words.now log.old result log.new }
-{
-    answered(
-        Answer::Pending,
-        1,
-        Icr::WRITE,
-        Icr::cleared(Isr::NACKF),
-        words,
-        log,
-    )
+    try_settle(answer, 1, &[register, word_at(words, 0)], words, log)
 }
 
 impl Link {
     pub(crate) fn on_berr(&mut self, words: &[u32], log: &mut [u32]) -> Result<Report, Refusal>
         ensures { Arm Flag.Berr words.now (model self.old) (model self.new) result log.old log.new }
     {
-        let report = answered(
-            Answer::BusError,
-            1,
-            Icr::WRITE,
-            Icr::cleared(Isr::BERR),
-            words,
-            log,
-        )?;
+        let report = cleared(Answer::BusError, Isr::BERR, words, log)?;
         self.count_error();
         Ok(report)
     }

@@ -5,6 +5,7 @@ ghost use Rattle.kept.specs.Kept.{taken_up};
 use kept::taken::phase_of;
 use parked::{Kind, Parked};
 
+// `Parked` is of a crate below, so that no `From` can stand here.
 pub fn take_up(numbers: &[u64; 7]) -> Parked
     ensures { result ≡ taken_up numbers.now }
 {

@@ -1,5 +1,5 @@
 -- The calls of the non-blocking driver: which call of the definitions a line's call is, and what the others do to the link.
-use Rattle.std.specs.Prelude.{ℕ, ◌≡◌, cond, eqb, List, [], length as size, take, Option, Some, None, Result, Ok, Err, unwrap_or}
+use Rattle.std.specs.Prelude.{ℕ, ◌≡◌, cond, eqb, List, [], ◌∷◌, length as size, take, Option, Some, None, Result, unwrap_or, codes, decimal}
 use Rattle.access.specs.declared.Report.{Report}
 use Rattle.answers.specs.declared.Refusal.{Refusal}
 use Rattle.answers.specs.Answers.{says}
@@ -9,13 +9,14 @@ use Rattle.construction.specs.Drivers.{non_blocking_construction}
 use Rattle.ending.specs.Call.{Call, master_write, master_write_read, master_read, slave_write, check_isr_flags, execute_watchdog, get_errors_reset, master_get_data, slave_get_data, get_address, listen, unlisten, slave_sbc, set_address}
 use Rattle.ending.specs.Link.{Link, link_at, fresh}
 use Rattle.ending.specs.Outcome.{outcome, Matches}
+use Rattle.print.specs.Lines.{hex_digits, bytes_text, spaced}
 use Rattle.script.specs.Settings.{configuration_of}
 use Rattle.script.specs.declared.calls.LinkValues.{LinkValues}
 use Rattle.script.specs.declared.calls.LinkCall.{LinkCall}
 use Rattle.script.specs.declared.calls.LinkCall.TheVariants.{Reset, Set, New, MasterWrite, MasterWriteRead, MasterRead, SlaveWrite, Check, Watchdog, Errors, MasterData, SlaveData, Address, Listen, Unlisten, SlaveSbc, SetAddress}
 use Rattle.text.specs.Bytes.{bytes_of}
 use Rattle.text.specs.declared.bytes.Bytes.{Bytes}
-use Rattle.playing.specs.Unwaited.{settled_refusal}
+use Rattle.playing.specs.Unwaited.{constructed}
 
 -- the bytes that a line gives, at most as many as BYTES may give
 abbrev pub given : Bytes → List ℕ
@@ -38,13 +39,12 @@ with_values v l = link_at
 
 -- `nb new`: the set-up, or what the filter's setter refuses
 abbrev pub set_up_of : Result Config Refusal → ℕ → List ℕ → ℕ → Settled
-set_up_of (Ok c) clock words places = non_blocking_construction c clock words places
-set_up_of (Err refusal) clock words places = settled_refusal refusal
+set_up_of c clock words places = constructed non_blocking_construction c clock words places
 
--- the link is a fresh one where the set-up was done, whose answer is 0, and as it was where it was refused
+-- the link is a fresh one where the set-up was done, and as it was where it was refused, which logs nothing
 pub record SetUp (s : Settled) (l : Link) (r : Report) (l' : Link) (before after : List ℕ) : Type 0 where
   pub report : Reported s before r after
-  pub link : l' ≡ cond (eqb s.answer.number 0) fresh l
+  pub link : l' ≡ cond (eqb (size s.numbers) 0) l fresh
 
 -- the words, the link before, the report, the link after, and the log before and after
 module _ (words : List ℕ) (l : Link) (r : Report) (l' : Link) (before after : List ℕ) where
@@ -60,7 +60,7 @@ module _ (words : List ℕ) (l : Link) (r : Report) (l' : Link) (before after : 
   abbrev pub Played : LinkCall → Type 0
   Played Reset = Left fresh
   Played (Set values) = Left (with_values values l)
-  Played (New clock settings) = SetUp (set_up_of (configuration_of settings) clock words (size before)) l r l' before after
+  Played (New c) = SetUp (set_up_of (configuration_of c.settings) c.clock words (size before)) l r l' before after
   Played (MasterWrite address bytes) = Calls (master_write address (given bytes))
   Played (MasterWriteRead address bytes n) = Calls (master_write_read address (given bytes) n)
   Played (MasterRead address n) = Calls (master_read address n)
@@ -75,3 +75,7 @@ module _ (words : List ℕ) (l : Link) (r : Report) (l' : Link) (before after : 
   Played Unlisten = Calls unlisten
   Played (SlaveSbc on) = Calls (slave_sbc on)
   Played (SetAddress address) = Calls (set_address address)
+
+-- a link as it is told: the address in four hex digits, the numbers in decimal, and the bytes
+abbrev pub kept_text : Link → List ℕ
+kept_text l = spaced (codes "S") (hex_digits 4 l.address ∷ decimal l.watchdog ∷ decimal l.index ∷ decimal l.length ∷ decimal l.errors ∷ decimal l.length_write_read ∷ bytes_text l.«data» ∷ [])

@@ -1,9 +1,10 @@
 -- What the calls of the configuration tell.
-use Rattle.std.specs.Prelude.{ℕ, List, [], ◌∷◌, Some, None, Result, Ok, Err}
+use Rattle.std.specs.Prelude.{ℕ, List, [], ◌∷◌, Some, None, Result, Ok, Err, codes, decimal}
 use Rattle.answers.specs.declared.Refusal.{Refusal}
 use Rattle.answers.specs.declared.Refusal.TheVariants.{NoRate}
 use Rattle.config.specs.declared.Config.{Config}
 use Rattle.config.specs.Config.{plain, filtered, timing_bits, period}
+use Rattle.print.specs.Lines.{hex_digits, spaced}
 use Rattle.script.specs.Settings.{configuration_of}
 use Rattle.script.specs.declared.calls.ConfigCall.{ConfigCall}
 use Rattle.script.specs.declared.calls.ConfigCall.TheVariants.{Timing, Filter, Period}
@@ -26,6 +27,11 @@ setting_of (Ok c) = Ok (ToldWord c.digital_filter)
 setting_of (Err refusal) = Err refusal
 
 abbrev pub told_of : ConfigCall → Result Told Refusal
-told_of (Timing clock settings) = timing_of (configuration_of settings) clock
+told_of (Timing c) = timing_of (configuration_of c.settings) c.clock
 told_of (Filter cycles) = setting_of (filtered cycles (plain (Some 0) None))
 told_of (Period word) = Ok (ToldPeriod (period word))
+
+-- a word in eight hex digits, or a decimal number
+abbrev pub told_text : Told → List ℕ
+told_text (ToldWord word) = spaced (codes "V") (hex_digits 8 word ∷ [])
+told_text (ToldPeriod period) = spaced (codes "P") (decimal period ∷ [])

@@ -15,12 +15,13 @@ use Rattle.script.specs.declared.calls.UnwaitedCall.TheVariants.{New, SlaveAddre
 abbrev pub settled_refusal : Refusal → Settled
 settled_refusal refusal = record { answer = said (answer_of refusal); taken = 0; numbers = [] }
 
-abbrev pub constructed : Result Config Refusal → ℕ → List ℕ → ℕ → Settled
-constructed (Ok c) clock words places = blocking_construction c clock words places
-constructed (Err refusal) clock words places = settled_refusal refusal
+-- a driver's construction, or what the filter's setter refuses
+abbrev pub constructed : (Config → ℕ → List ℕ → ℕ → Settled) → Result Config Refusal → ℕ → List ℕ → ℕ → Settled
+constructed construction (Ok c) clock words places = construction c clock words places
+constructed construction (Err refusal) clock words places = settled_refusal refusal
 
 abbrev pub unwaited : UnwaitedCall → List ℕ → ℕ → Settled
-unwaited (New clock settings) words places = constructed (configuration_of settings) clock words places
+unwaited (New c) words places = constructed blocking_construction (configuration_of c.settings) c.clock words places
 unwaited SlaveAddressed words places = slave_addressed words places
 unwaited (SlaveSbc on) words places = slave_sbc on words places
 unwaited (Listen event) words places = interrupt event true words places

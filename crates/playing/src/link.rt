@@ -1,19 +1,17 @@
 // The calls of the non-blocking driver, and the link after them.
-ghost use Rattle.std.specs.Prelude.{◌≡◌, ◌<◌, IfOk, length as size};
-ghost use Rattle.access.specs.Access.{over, Reported};
+ghost use Rattle.std.specs.Prelude.{◌≡◌, Some, length as size};
+ghost use Rattle.access.specs.Access.{over};
 ghost use Rattle.access.specs.Reports.{report_of, report_of_answer};
 ghost use Rattle.nonblocking.specs.Model.{model};
-ghost use Rattle.playing.specs.Link.{given, with_values, set_up_of, SetUp, Played};
+ghost use Rattle.playing.specs.Link.{given, with_values, set_up_of, SetUp, Played, kept_text};
 ghost use Rattle.script.specs.Settings.{configuration_of};
 
 use access::Report;
 use answers::{Answer, Refusal};
 use arrayvec::ArrayVec;
-use nonblocking::construct::try_i2c1;
 use nonblocking::{Called, Link};
 use print::lines::Hex;
-use script::calls::{LinkCall, LinkValues};
-use script::settings::Settings;
+use script::calls::{Construction, LinkCall, LinkValues};
 use std::fmt;
 use text::bytes::{Bytes, MOST};
 
@@ -25,7 +23,7 @@ pub fn play_link(link: Link, call: LinkCall<'_>, words: &[u32], log: &mut [u32])
     match call {
         LinkCall::Reset => left(Link::new()),
         LinkCall::Set(values) => left(set(link, values)),
-        LinkCall::New { clock, settings } => construct(link, settings, clock, words, log),
+        LinkCall::New(call) => construct(link, call, words, log),
         LinkCall::MasterWrite { address, bytes } => {
             link.master_write(address, given(bytes, &mut buffer), words, log)
         }
@@ -100,33 +98,26 @@ fn with_front(mut data: [u8; 255], bytes: Bytes<'_>) -> [u8; 255]
 }
 
 // `nb new`: a refusal leaves the link.
-#[tactic(auto, using(crate::proofs::Done::done))]
-fn construct(link: Link, settings: Settings, clock: u32, words: &[u32], log: &mut [u32]) -> Called
-    ensures { SetUp (set_up_of (configuration_of settings) clock words.now (size log.old)) (model link) result.report (model result.link) log.old log.new }
+fn construct(mut link: Link, call: Construction, words: &[u32], log: &mut [u32]) -> Called
+    ensures { SetUp (set_up_of (configuration_of call.settings) call.clock words.now (size log.old)) (model link) result.report (model result.link) log.old log.new }
 {
-    match try_construct(settings, clock, words, log) {
-        Ok(report) => Called {
-            link: Link::new(),
-            report,
-        },
-        Err(refusal) => Called {
-            link,
-            report: Report::from(refusal),
-        },
+    let tried = renew(&mut link, call, words, log);
+    Called {
+        link,
+        report: tried.unwrap_or_else(Report::from),
     }
 }
 
 // The set-up, where the filter's setter does not refuse.
-fn try_construct(
-    settings: Settings,
-    clock: u32,
+fn renew(
+    link: &mut Link,
+    call: Construction,
     words: &[u32],
     log: &mut [u32],
 ) -> Result<Report, Refusal>
-    ensures report { Reported (set_up_of (configuration_of settings) clock words.now (size log.old)) log.old (report_of result) log.new }
-    ensures logged { IfOk result (λ report. 0 < report.logged) }
+    ensures { SetUp (set_up_of (configuration_of call.settings) call.clock words.now (size log.old)) (model link.old) (report_of result) (model link.new) log.old log.new }
 {
-    try_i2c1(settings.config()?, clock, words, log)
+    link.renew(call.settings.config()?, call.clock, words, log)
 }
 
 // A link as it is kept.
@@ -134,6 +125,9 @@ fn try_construct(
 pub struct Kept<'a>(pub &'a Link);
 
 impl fmt::Display for Kept<'_> {
+    ghost output = { λ kept. Some (kept_text (model kept.0.now)) };
+
+    #[tactic(auto, using(print::proofs::Padded::zeros_first, std::proofs::Common::append_assoc))]
     fn fmt<W: fmt::Write>(&self, f: &mut fmt::Formatter<W>) -> fmt::Result {
         let Kept(link) = *self;
         write!(

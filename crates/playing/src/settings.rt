@@ -1,10 +1,10 @@
 // The calls of the configuration.
-ghost use Rattle.std.specs.Prelude.{◌≡◌};
-ghost use Rattle.playing.specs.Settings.{told_of};
+ghost use Rattle.std.specs.Prelude.{◌≡◌, Some};
+ghost use Rattle.playing.specs.Settings.{told_of, told_text};
 
 use answers::Refusal;
 use config::Config;
-use script::calls::ConfigCall;
+use script::calls::{ConfigCall, Construction};
 use std::fmt;
 
 // What such a call tells: a timing word or the setting of the filter, or a period.
@@ -19,7 +19,7 @@ pub fn config_call(call: ConfigCall) -> Result<Told, Refusal>
     ensures { result ≡ told_of call }
 {
     match call {
-        ConfigCall::Timing { clock, settings } => {
+        ConfigCall::Timing(Construction { clock, settings }) => {
             settings.config()?.timing_bits(clock).map(Told::Word)
         }
         ConfigCall::Filter(cycles) => {
@@ -31,6 +31,9 @@ pub fn config_call(call: ConfigCall) -> Result<Told, Refusal>
 }
 
 impl fmt::Display for Told {
+    ghost output = { λ told. Some (told_text told) };
+
+    #[tactic(auto, using(print::proofs::Padded::zeros_first))]
     fn fmt<W: fmt::Write>(&self, f: &mut fmt::Formatter<W>) -> fmt::Result {
         match *self {
             Told::Word(word) => write!(f, "V {word:08X}"),

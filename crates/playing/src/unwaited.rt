@@ -7,13 +7,13 @@ use access::Report;
 use never_wait::construct::i2c1;
 use never_wait::interrupts::{clear_irq, listen, unlisten};
 use never_wait::slave::{slave_addressed, slave_sbc};
-use script::calls::UnwaitedCall;
+use script::calls::{Construction, UnwaitedCall};
 
 pub fn play_unwaited(call: UnwaitedCall, words: &[u32], log: &mut [u32]) -> Report
     ensures { Reported (unwaited call words.now (length log.old)) log.old result log.new }
 {
     match call {
-        UnwaitedCall::New { clock, settings } => match settings.config() {
+        UnwaitedCall::New(Construction { clock, settings }) => match settings.config() {
             Ok(config) => i2c1(config, clock, words, log),
             Err(refusal) => Report::from(refusal),
         },

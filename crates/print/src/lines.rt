@@ -1,5 +1,8 @@
 // The lines of a call: its accesses, its answer, and bytes.
-ghost use Rattle.std.specs.Prelude.{◌≤◌, length};
+ghost use Rattle.std.specs.Prelude.{◌≡◌, ◌≤◌, length, take, Some};
+ghost use Rattle.std.specs.Fmt.{WritesOnOk};
+ghost use Rattle.hex.specs.Hex.{encode_upper};
+ghost use Rattle.print.specs.Lines.{bytes_text, access_line, answer_line, reported_text};
 
 use access::Report;
 use answers::Answer;
@@ -10,6 +13,8 @@ use std::fmt;
 pub struct Hex<'a>(pub &'a [u8]);
 
 impl fmt::Display for Hex<'_> {
+    ghost output = { λ hex. Some (bytes_text hex.0.now) };
+
     fn fmt<W: fmt::Write>(&self, f: &mut fmt::Formatter<W>) -> fmt::Result {
         if self.0.is_empty() {
             return f.write_str("-");
@@ -26,6 +31,7 @@ impl fmt::Display for Hex<'_> {
 // So many bytes as hex pairs.
 fn write_hex<W: fmt::Write>(f: &mut fmt::Formatter<W>, bytes: &[u8]) -> fmt::Result
     requires { length bytes.now ≤ 32 }
+    ensures { WritesOnOk W.write_str_gives f.old result (encode_upper bytes.now) f.new }
 {
     let mut digits = [0u8; 64];
     let digits = &mut digits[..2 * bytes.len()];
@@ -43,39 +49,60 @@ pub struct Reported<'a> {
     pub data: &'a [u8],
 }
 
-impl Reported<'_> {
-    // So many bytes.
-    fn shown(&self, count: usize) -> Hex<'_> {
-        Hex(self.data.get(..count).unwrap_or(self.data))
+impl fmt::Display for Reported<'_> {
+    ghost output = { λ r. Some (reported_text r.report r.log.now r.data.now) };
+
+    fn fmt<W: fmt::Write>(&self, f: &mut fmt::Formatter<W>) -> fmt::Result {
+        let (accesses, _) = front(self.log, self.report.logged).as_chunks::<2>();
+        for &[number, word] in accesses {
+            write_access(f, number, word)?;
+        }
+        write_answer(f, self.report.answer, self.data)
     }
 }
 
-impl fmt::Display for Reported<'_> {
-    fn fmt<W: fmt::Write>(&self, f: &mut fmt::Formatter<W>) -> fmt::Result {
-        let (accesses, _) = self.log.as_chunks::<2>();
-        for &[number, word] in accesses.iter().take(self.report.logged / 2) {
-            let kind = if number < 0x100 { 'R' } else { 'W' };
-            writeln!(f, "{kind} {:02X} {word:08X}", number % 0x100)?;
+// The line of an access.
+fn write_access<W: fmt::Write>(f: &mut fmt::Formatter<W>, number: u32, word: u32) -> fmt::Result
+    ensures { WritesOnOk W.write_str_gives f.old result (access_line number word) f.new }
+{
+    let kind = if number < 0x100 { 'R' } else { 'W' };
+    writeln!(f, "{kind} {:02X} {word:08X}", number % 0x100)
+}
+
+// The line of an answer. The bytes that it shows are the first ones of the data.
+#[tactic(auto, using(crate::proofs::Padded::zeros_first, std::proofs::Common::append_assoc))]
+fn write_answer<W: fmt::Write>(
+    f: &mut fmt::Formatter<W>,
+    answer: Answer,
+    data: &[u8],
+) -> fmt::Result
+    ensures { WritesOnOk W.write_str_gives f.old result (answer_line answer «data».now) f.new }
+{
+    match answer {
+        Answer::IncorrectFrameSize(count) => writeln!(f, "= 5 {count}"),
+        Answer::Data {
+            address,
+            direction,
+            count,
+        } => writeln!(
+            f,
+            "= D {address:04X} {} {}",
+            direction as u8,
+            Hex(front(data, count))
+        ),
+        Answer::Addressed { address, direction } => {
+            writeln!(f, "= A {address:04X} {}", direction as u8)
         }
-        match self.report.answer {
-            Answer::IncorrectFrameSize(count) => writeln!(f, "= 5 {count}"),
-            Answer::Data {
-                address,
-                direction,
-                count,
-            } => writeln!(
-                f,
-                "= D {address:04X} {} {}",
-                direction as u8,
-                self.shown(count)
-            ),
-            Answer::Addressed { address, direction } => {
-                writeln!(f, "= A {address:04X} {}", direction as u8)
-            }
-            Answer::Errors(count) => writeln!(f, "= E {count}"),
-            Answer::Address(address) => writeln!(f, "= N {address:04X}"),
-            Answer::Bytes(count) => writeln!(f, "= G {}", self.shown(count)),
-            answer => writeln!(f, "= {}", answer.number()),
-        }
+        Answer::Errors(count) => writeln!(f, "= E {count}"),
+        Answer::Address(address) => writeln!(f, "= N {address:04X}"),
+        Answer::Bytes(count) => writeln!(f, "= G {}", Hex(front(data, count))),
+        answer => writeln!(f, "= {}", answer.number()),
     }
+}
+
+// So many of the first ones, or all.
+fn front<T>(items: &[T], count: usize) -> &[T]
+    ensures { result.now ≡ take count items.now }
+{
+    items.get(..count).unwrap_or(items)
 }

@@ -8,6 +8,7 @@ use fields::Field;
 pub struct Cr1;
 
 impl Cr1 {
+    // Why no trait gives a register its numbers: see `Field`.
     pub const OFFSET: u32 = 0x00;
 
     pub const READ: u32 = Cr1::OFFSET;

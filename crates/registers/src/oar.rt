@@ -10,6 +10,7 @@ use fields::Field;
 pub struct Oar1;
 
 impl Oar1 {
+    // Why no trait gives a register its numbers: see `Field`.
     pub const OFFSET: u32 = 0x08;
 
     pub const WRITE: u32 = Oar1::OFFSET + 0x100;
@@ -56,6 +57,7 @@ impl Oar1 {
 pub struct Oar2;
 
 impl Oar2 {
+    // Why no trait gives a register its numbers: see `Field`.
     pub const OFFSET: u32 = 0x0C;
 
     pub const WRITE: u32 = Oar2::OFFSET + 0x100;

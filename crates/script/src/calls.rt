@@ -16,10 +16,7 @@ pub enum Call<'a> {
 pub enum LinkCall<'a> {
     Reset,
     Set(LinkValues<'a>),
-    New {
-        clock: u32,
-        settings: Settings,
-    },
+    New(Construction),
     MasterWrite {
         address: u16,
         bytes: Bytes<'a>,
@@ -44,6 +41,13 @@ pub enum LinkCall<'a> {
     Unlisten,
     SlaveSbc(bool),
     SetAddress(u16),
+}
+
+// What a constructor is given, and `cfg timing`: the clock, and the settings of the configuration.
+#[derive(Clone, Copy, Debug, PartialEq, Eq)]
+pub struct Construction {
+    pub clock: u32,
+    pub settings: Settings,
 }
 
 // The values that `nb set` puts into the link.
@@ -90,7 +94,7 @@ pub struct Slices<'a> {
 // The calls of the blocking driver that never wait.
 #[derive(Clone, Copy, Debug, PartialEq, Eq)]
 pub enum UnwaitedCall {
-    New { clock: u32, settings: Settings },
+    New(Construction),
     SlaveAddressed,
     SlaveSbc(bool),
     Listen(Event),
@@ -101,7 +105,7 @@ pub enum UnwaitedCall {
 // The calls of the configuration.
 #[derive(Clone, Copy, Debug, PartialEq, Eq)]
 pub enum ConfigCall {
-    Timing { clock: u32, settings: Settings },
+    Timing(Construction),
     Filter(u8),
     Period(u32),
 }

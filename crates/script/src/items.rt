@@ -1,5 +1,5 @@
 // The tokens of a call, from the driver's name to its last option.
-use crate::calls::{Call, ConfigCall, LinkCall, UnwaitedCall, WaitingCall};
+use crate::calls::{Call, ConfigCall, Construction, LinkCall, UnwaitedCall, WaitingCall};
 use crate::options::{link_values, settings, slices};
 use flags::Event;
 use text::bytes::{Bytes, MOST};
@@ -21,10 +21,7 @@ fn link_call<'a>(items: &[&'a str]) -> Option<LinkCall<'a>> {
     Some(match items {
         ["reset"] => LinkCall::Reset,
         ["set", options @ ..] => LinkCall::Set(link_values(options)?),
-        ["new", clock, options @ ..] => LinkCall::New {
-            clock: decimal(clock)?,
-            settings: settings(options)?,
-        },
+        ["new", items @ ..] => LinkCall::New(construction(items)?),
         ["master_write", address, bytes] => LinkCall::MasterWrite {
             address: hex(address)?,
             bytes: slice(bytes)?,
@@ -78,10 +75,7 @@ fn waiting_call<'a>(items: &[&'a str]) -> Option<WaitingCall<'a>> {
 
 fn unwaited_call(items: &[&str]) -> Option<UnwaitedCall> {
     Some(match items {
-        ["new", clock, options @ ..] => UnwaitedCall::New {
-            clock: decimal(clock)?,
-            settings: settings(options)?,
-        },
+        ["new", items @ ..] => UnwaitedCall::New(construction(items)?),
         ["slave_addressed"] => UnwaitedCall::SlaveAddressed,
         ["sbc", switch] => UnwaitedCall::SlaveSbc(is_on(switch)?),
         ["listen", token] => UnwaitedCall::Listen(event(token)?),
@@ -93,13 +87,20 @@ fn unwaited_call(items: &[&str]) -> Option<UnwaitedCall> {
 
 fn config_call(items: &[&str]) -> Option<ConfigCall> {
     Some(match items {
-        ["timing", clock, options @ ..] => ConfigCall::Timing {
-            clock: decimal(clock)?,
-            settings: settings(options)?,
-        },
+        ["timing", items @ ..] => ConfigCall::Timing(construction(items)?),
         ["filter", cycles] => ConfigCall::Filter(decimal(cycles)?),
         ["period", word] => ConfigCall::Period(hex(word)?),
         _ => return None,
+    })
+}
+
+fn construction(items: &[&str]) -> Option<Construction> {
+    let [clock, options @ ..] = items else {
+        return None;
+    };
+    Some(Construction {
+        clock: decimal(clock)?,
+        settings: settings(options)?,
     })
 }
 

@@ -1,10 +1,10 @@
 // A call's words and the log of its accesses, in code: a call that never waits is settled, or refused whole.
 #![tactic(auto)]
 
-ghost use Rattle.std.specs.Prelude.{◌≡◌, ◌≤◌, ◌↔◌, IsOk, IfOk, length, get_or};
+ghost use Rattle.std.specs.Prelude.{◌≡◌, ◌≤◌, ◌↔◌, IsOk, IfOk, IfErr, is_ok, [], ◌∷◌, length, get_or};
 ghost use Rattle.access.specs.Access.{Logged, Reported, settle};
 ghost use Rattle.access.specs.Reports.{report_of};
-ghost use Rattle.answers.specs.Answers.{said};
+ghost use Rattle.answers.specs.Answers.{said, says};
 
 use access::Report;
 use answers::{Answer, Refusal};
@@ -17,19 +17,19 @@ pub fn word_at(words: &[u32], place: usize) -> u32
 }
 
 // Entries to the log, from its first place on; none where they do not all fit.
-#[inline(always)]
-pub fn write_log(log: &mut [u32], entries: &[u32]) -> bool
-    ensures { Logged entries.now log.old result log.new }
+#[tactic(auto, using(access::proofs::Over::over_front))]
+pub fn write_log(log: &mut [u32], entries: &[u32]) -> Result<(), Refusal>
+    ensures logged { Logged entries.now log.old (is_ok result) log.new }
+    ensures full { IfErr result (λ refusal. refusal ≡ Refusal.LogFull) }
 {
     if log.len() < entries.len() {
-        return false;
+        return Err(Refusal::LogFull);
     }
     log[..entries.len()].copy_from_slice(entries);
-    true
+    Ok(())
 }
 
 // A call that never waits, as it is settled or refused: first 9 over all its reads, then 10 over all its accesses.
-#[inline(always)]
 pub fn try_settle(
     answer: Answer,
     reads: usize,
@@ -44,14 +44,26 @@ pub fn try_settle(
     if words.len() < reads {
         return Err(Refusal::OutOfWords);
     }
-    if !write_log(log, entries) {
-        return Err(Refusal::LogFull);
-    }
+    write_log(log, entries)?;
     Ok(Report {
         answer,
         taken: reads,
         logged: entries.len(),
     })
+}
+
+// A `modify`: a register was read, and is written; the two numbers are its in the log.
+pub fn try_modify(
+    read: u32,
+    write: u32,
+    word: u32,
+    words: &[u32],
+    log: &mut [u32],
+) -> Result<Report, Refusal>
+    ensures { Reported (settle (says 0 []) 1 (read ∷ get_or words.now 0 0 ∷ write ∷ word ∷ []) (length words.now) (length log.old)) log.old (report_of result) log.new }
+{
+    let entries = [read, word_at(words, 0), write, word];
+    try_settle(Answer::Done, 1, &entries, words, log)
 }
 
 // The same by its report: a refusal takes no words and logs nothing.

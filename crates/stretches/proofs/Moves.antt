@@ -4,10 +4,11 @@ use mathlib.Core.Path.{◌≡◌, refl, sym, ap, subst, ◌∙◌}
 use mathlib.Core.Bool.{true, false}
 use mathlib.Core.List.{List, [], ◌∷◌}
 use native.Mathlib.Omega.{arith}
+use borrow.Author.Rules.{part_to_end}
 use borrow.Author.Tests.{lt-ltb}
 use lib.ListN.{length, get_or, set}
-use lib.Seq.{sets}
-use Rattle.std.specs.Prelude.{None, Some}
+use lib.Seq.{sets, get_or-drop}
+use Rattle.std.specs.Prelude.{None, Some, slice_range}
 use Rattle.wanted.specs.declared.Wanted.{Wanted}
 use Rattle.wanted.specs.declared.Wanted.TheVariants.{Txis, Rxne}
 use Rattle.wanted.specs.declared.Found.TheVariants.{Wanted as Met}
@@ -26,6 +27,10 @@ use Rattle.stretches.specs.Stretches.{Carried, Sends, Receives, counted}
 use Rattle.stretches.proofs.Carries.{carried_on}
 use Rattle.runs.proofs.Phased.{next_wait, next_in, next_out, more_in, more_out, wanted_in, wanted_out, found_byte}
 use Rattle.stretches.proofs.Accesses.{on, reads, writes}
+
+-- a word of those that are left
+pub word_left : (ws left : List ℕ) (first i n : ℕ) → left ≡ slice_range ws first (length ws) → n ≡ first + i → get_or left i 0 ≡ get_or ws n 0
+word_left ws left first i n e h = rw (e, part_to_end ws first, h) (get_or-drop first ws i 0)
 
 -- a call at its own phase, with a count
 pub stays_at : (p : Parked) (f : Phase) (n : ℕ) → p.phase ≡ f → at_phase p f n ≡ counted p n

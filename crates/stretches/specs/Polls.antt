@@ -1,6 +1,8 @@
 -- What a word of ISR leaves in the log of a wait.
-use Rattle.std.specs.Prelude.{ℕ, ◌+◌, ◌≤◌, ◌≡◌, Bool, true, false, cond, List, [], ◌∷◌, leb, length, Option, None, Some}
+use Rattle.std.specs.Prelude.{ℕ, ◌+◌, ◌≤◌, ◌≡◌, Bool, cond, List, [], ◌∷◌, leb, length, Option, None, Some}
 use Rattle.std.proofs.lemmas.List.Edits.{sets}
+use Rattle.stretches.specs.declared.Seen.{Seen}
+use Rattle.stretches.specs.declared.Seen.TheVariants.{Byte, NoFlag}
 use Rattle.fields.specs.Layout.{ISR, offset}
 use Rattle.wanted.specs.declared.Wanted.{Wanted}
 use Rattle.wanted.specs.declared.Found.TheVariants.{Wanted as Met}
@@ -12,7 +14,7 @@ pub record Put (entries before : List ℕ) (at : ℕ) (fits : Bool) (after : Lis
   pub log : after ≡ cond fits (sets before at entries) before
 
 -- a word of ISR has the wanted flag, and the byte's access follows it in the log; or it has no flag; or nothing was done
-abbrev pub Polled : Option Bool → ℕ → Wanted → ℕ → ℕ → ℕ → List ℕ → List ℕ → Type 0
-Polled (Some true) isr wanted number word g log log' = (found_in isr wanted ≡ Some Met) × (g + 4 ≤ length log) × (log' ≡ sets log g (offset ISR ∷ isr ∷ number ∷ word ∷ []))
-Polled (Some false) isr wanted number word g log log' = (found_in isr wanted ≡ None) × (g + 2 ≤ length log) × (log' ≡ sets log g (offset ISR ∷ isr ∷ []))
+abbrev pub Polled : Option Seen → ℕ → Wanted → ℕ → ℕ → ℕ → List ℕ → List ℕ → Type 0
+Polled (Some Byte) isr wanted number word g log log' = (found_in isr wanted ≡ Some Met) × (g + 4 ≤ length log) × (log' ≡ sets log g (offset ISR ∷ isr ∷ number ∷ word ∷ []))
+Polled (Some NoFlag) isr wanted number word g log log' = (found_in isr wanted ≡ None) × (g + 2 ≤ length log) × (log' ≡ sets log g (offset ISR ∷ isr ∷ []))
 Polled None isr wanted number word g log log' = log' ≡ log

@@ -2,36 +2,39 @@
 ghost use Rattle.std.specs.Prelude.{◌≡◌};
 ghost use Rattle.stretches.specs.Polls.{Put, Polled};
 
+use crate::Seen;
 use flags::Isr;
 use settling::write_log;
 use wanted::{Found, Wanted};
 
-// Entries to the log, from a place on; none where they do not all fit.
+// Entries to the log, from a place on; none where they do not all fit. A bool, since its callers do nothing where there is no room, and ask
+// no more.
 pub fn put_at(log: &mut [u32], at: usize, entries: &[u32]) -> bool
     ensures { Put entries.now log.old at result log.new }
 {
     if log.len() < at {
         return false;
     }
-    write_log(&mut log[at..], entries)
+    write_log(&mut log[at..], entries).is_ok()
 }
 
-// A word of ISR: with the wanted flag the byte's access follows (`Some(true)`), by its number and word; with no flag the wait goes on
-// (`Some(false)`); and whatever else comes, or has no room, is left alone. An enum of three
-// cases would say the same in more lines.
+// A word of ISR: with the wanted flag the byte's access follows, by its number and word; with no flag the wait goes on; and whatever else
+// comes, or has no room, is left alone.
 pub fn polled(
     isr: u32,
     wanted: Wanted,
     number: u32,
     word: u32,
-    logged: usize,
+    at: usize,
     log: &mut [u32],
-) -> Option<bool>
-    ensures { Polled result isr wanted number word logged log.old log.new }
+) -> Option<Seen>
+    ensures { Polled result isr wanted number word at log.old log.new }
 {
     match wanted.found_in(isr) {
-        Some(Found::Wanted) => put_at(log, logged, &[Isr::READ, isr, number, word]).then_some(true),
-        None => put_at(log, logged, &[Isr::READ, isr]).then_some(false),
+        Some(Found::Wanted) => {
+            put_at(log, at, &[Isr::READ, isr, number, word]).then_some(Seen::Byte)
+        }
+        None => put_at(log, at, &[Isr::READ, isr]).then_some(Seen::NoFlag),
         Some(_) => None,
     }
 }

@@ -1,10 +1,11 @@
 // Bytes that follow each other: each word of ISR has the wanted flag or none that the wait looks at, and no word and no room is missing.
-// Each is a `while` over its progress: a byte that comes in takes two words, and a word that is left alone is not taken, so no `for` steps them.
+// Out takes a word a round. In is a `while` over its progress: a byte that comes in takes two words, and a word without its flag one, so no `for`
+// steps it; and it takes them by their places, since by a pattern of the words that are left a byte takes 5 to 10 instructions more.
 // Out and in are two loops: a trait for what is lent, how many words a byte takes and where it goes would be longer than the second loop.
 ghost use Rattle.stretches.specs.Stretches.{Sends, Receives};
 
-use crate::Progress;
 use crate::polls::polled;
+use crate::{Progress, Seen};
 use data_registers::{Rxdr, Txdr};
 use one_byte::{byte_in, byte_out};
 use wanted::Wanted;
@@ -13,22 +14,26 @@ use wanted::Wanted;
 pub fn send_bytes(from: Progress, send: &[u8], words: &[u32], log: &mut [u32]) -> Progress
     ensures { Sends send.now words.now log.old from log.new result }
 {
+    let Some(left) = words.get(from.taken..) else {
+        return from;
+    };
     let mut p = from;
-    while p.parked.count < send.len() && p.taken < words.len() {
-        let isr = words[p.taken];
+    for &isr in left {
+        if send.len() <= p.parked.count {
+            break;
+        }
         let sent = byte_out(send, p.parked.count);
-        match polled(isr, Wanted::Txis, Txdr::WRITE, sent, p.logged, log) {
-            Some(true) => {
+        let Some(seen) = polled(isr, Wanted::Txis, Txdr::WRITE, sent, p.logged, log) else {
+            break;
+        };
+        match seen {
+            Seen::Byte => {
                 p.parked.count += 1;
-                p.taken += 1;
                 p.logged += 4;
             }
-            Some(false) => {
-                p.taken += 1;
-                p.logged += 2;
-            }
-            None => break,
+            Seen::NoFlag => p.logged += 2,
         }
+        p.taken += 1;
     }
     p
 }
@@ -46,13 +51,14 @@ pub fn receive_bytes(from: Progress, receive: &mut [u8], words: &[u32], log: &mu
         let isr = words[p.taken];
         let rxdr = words[p.taken + 1];
         match polled(isr, Wanted::Rxne, Rxdr::READ, rxdr, p.logged, log) {
-            Some(true) => {
+            Some(Seen::Byte) => {
+                // The byte in `rxdr`, by the function whose contract says which word it comes from.
                 receive[p.parked.count] = byte_in(words, p.taken);
                 p.parked.count += 1;
                 p.taken += 2;
                 p.logged += 4;
             }
-            Some(false) => {
+            Some(Seen::NoFlag) => {
                 p.taken += 1;
                 p.logged += 2;
             }

@@ -1,7 +1,7 @@
 -- A token of BYTES.
 use Rattle.std.proofs.Common.{◌≡◌, ℕ, ◌+◌, ◌^◌, ◌<◌, Bool, true, false, ◌&&◌, ◌||◌, not, cond, leb, ltb, List, [], ◌∷◌, length, replicate, Option, Some, None, option_and_then, option_map, Bor, refl, sym, ◌∙◌, ⊎_elim, arith, rules, tests}
 use Rattle.std.proofs.lemmas.Grind.{common_steps}
-use Rattle.std.proofs.lemmas.Bool.{cases_lt}
+use Rattle.std.proofs.lemmas.Bool.{cases_lt, and_parts}
 use Rattle.std.proofs.lemmas.Option.{MatchOption-at_some, MatchOption-at_none, cond_some}
 use Rattle.std.proofs.lemmas.Str.Pattern.{IsSplitOnceResult, split_once_first}
 use Rattle.std.specs.Bool.{then_some}
@@ -34,11 +34,6 @@ token_bytes-whole token r split is =
     let h = MatchOption-at_none _ _ is (split_once_first 120 token r split (omega arith)) in
     rw (no_x token h) refl
 
-both : (a b : Bool) → (a && b) ≡ true → (a ≡ true) × (b ≡ true)
-both true true h = (refl, refl)
-both true false h = search rules
-both false b h = search rules
-
 all_decimal : (ds : List ℕ) → AllDigits 10 ds → list_all (λ c. is_digit c 10) ds ≡ true
 all_decimal [] h = refl
 all_decimal (c ∷ ds) h = let more = all_decimal ds h.1 in search (rules, tests)
@@ -46,7 +41,7 @@ all_decimal (c ∷ ds) h = let more = all_decimal ds h.1 in search (rules, tests
 decimal_all : (ds : List ℕ) → list_all (λ c. is_digit c 10) ds ≡ true → AllDigits 10 ds
 decimal_all [] h = tt
 decimal_all (c ∷ ds) h =
-    let parts = both (is_digit c 10) (list_all (λ c. is_digit c 10) ds) h in
+    let parts = and_parts (is_digit c 10) (list_all (λ c. is_digit c 10) ds) h in
     (search (rules, tests), decimal_all ds parts.1)
 
 pub count_number-of : (ds : List ℕ) → IsNumber 10 20 ds → count_number ds ≡ Some (digits_value 10 ds)
@@ -55,8 +50,8 @@ count_number-of ds h = let all = all_decimal ds h.0.1 in grind (arith, common_st
 count_number-some : (ds : List ℕ) (n : ℕ) → count_number ds ≡ Some n → n < 2 ^ 64 → IsNumber 10 20 ds × (digits_value 10 ds ≡ n)
 count_number-some ds n h fits =
     let found = cond_some (ltb 0 (length ds) && leb (length ds) 20 && list_all (λ c. is_digit c 10) ds) _ _ h in
-    let last = both (ltb 0 (length ds) && leb (length ds) 20) (list_all (λ c. is_digit c 10) ds) found.0 in
-    let sizes = both (ltb 0 (length ds)) (leb (length ds) 20) last.0 in
+    let last = and_parts (ltb 0 (length ds) && leb (length ds) 20) (list_all (λ c. is_digit c 10) ds) found.0 in
+    let sizes = and_parts (ltb 0 (length ds)) (leb (length ds) 20) last.0 in
     (((search (rules, tests), decimal_all ds last.1), search (rules, tests), grind arith), found.1)
 
 -- no hex pair before the `x`

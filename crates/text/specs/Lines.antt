@@ -36,14 +36,14 @@ Gives line given =
     (MatchResult given (λ bytes. bytes.now ≡ []) (λ _. ⊥))
     (MatchResult given (λ bytes. (bytes.now ≡ line) × (length line ≤ most)) (λ _. most < length line))
 
--- while it is read: whether it fits, and what is held of it
-abbrev pub Holds : List ℕ → Bool → List ℕ → Type 0
-Holds line fits held = MatchBool fits ((held ≡ line) × (length line ≤ most)) (most < length line) × (take 1 held ≡ take 1 line)
+-- what is held of it when it was read: all of it, if it is not too long, and else its first character at least
+abbrev pub Holds : List ℕ → Result ⊤ TooLong → List ℕ → Type 0
+Holds line read held = MatchResult read (λ _. (held ≡ line) × (length line ≤ most)) (λ _. most < length line) × (take 1 held ≡ take 1 line)
 
 -- there is no line where nothing is left to read
-abbrev pub ReadsLine : Option (List ℕ) → Option Bool → List ℕ → Option (List ℕ) → Type 0
+abbrev pub ReadsLine : Option (List ℕ) → Option (Result ⊤ TooLong) → List ℕ → Option (List ℕ) → Type 0
 ReadsLine old result held new =
-    MatchOption result (Keeps old new) (λ fits. (line : List ℕ) × IsLine line old new × Holds line fits held)
+    MatchOption result (Keeps old new) (λ read. (line : List ℕ) × IsLine line old new × Holds line read held)
 
 -- what is left to read of the input
 abbrev pub left : {R : Type 0} → (R → Option (List ℕ)) → Lines R → Option (List ℕ)

@@ -39,20 +39,20 @@ impl<R: Read> Lines<R> {
     pub fn next_line(&mut self) -> Option<Result<&[u8], TooLong>>
         ensures { NextLine (left R.remaining self.old) result }
     {
-        let fits = self.read_line()?;
+        let read = self.read_line()?;
         let line = self.line.as_slice();
         if line.starts_with(b"#") {
             return Some(Ok(&[]));
         }
-        Some(if fits { Ok(line) } else { Err(TooLong) })
+        Some(read.map(|()| line))
     }
 
-    // Reads the next line; gives whether all of it fits.
-    fn read_line(&mut self) -> Option<bool>
+    // Reads the next line; where it is too long, only its first characters are sure to be held.
+    fn read_line(&mut self) -> Option<Result<(), TooLong>>
         ensures { ReadsLine (left R.remaining self.old) result self.new.line.items (left R.remaining self.new) }
     {
         self.line.clear();
-        let mut fits = true;
+        let mut read = Ok(());
         // No line is as long as this.
         for _ in 0..u64::MAX {
             if !self.input.fill() {
@@ -64,13 +64,17 @@ impl<R: Read> Lines<R> {
             let bytes = self.input.bytes();
             let newline = newline(bytes);
             let length = newline.unwrap_or(bytes.len());
-            fits &= self.line.try_extend_from_slice(&bytes[..length]).is_ok();
+            read = read.and(
+                self.line
+                    .try_extend_from_slice(&bytes[..length])
+                    .map_err(|_| TooLong),
+            );
             if newline.is_some() {
                 self.input.consume(length + 1);
                 break;
             }
             self.input.consume(length);
         }
-        Some(fits)
+        Some(read)
     }
 }

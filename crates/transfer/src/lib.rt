@@ -18,11 +18,11 @@ pub fn read_again(words: &[u32]) -> u32
     word_at(words, 1)
 }
 
-// The byte at the index, as TXDR takes it. A missing byte counts as 0.
-pub fn byte_out(data: &[u8; 255], index: usize) -> u32
-    ensures { result ≡ sent (get_or «data».now index 0) }
+// The byte at the index, as TXDR takes it; 0 where none is left. In `one_byte` 0x21 stands there: one function would be told which at each call.
+pub fn byte_out(bytes: &[u8], index: usize) -> u32
+    ensures { result ≡ sent (get_or bytes.now index 0) }
 {
-    Txdr::sent(data.get(index).copied().unwrap_or(0))
+    Txdr::sent(bytes.get(index).copied().unwrap_or(0))
 }
 
 // The bytes that a transfer moved, with its address and direction.

@@ -1,5 +1,6 @@
 // `busy_wait`: the phase that each flag leads to.
-// A wait is told the kind of the call, and whether a byte is left to send or a place to fill (`more`).
+// A wait is told the kind of the call, and whether a byte is left to send or a place to fill (`more`). They stay two arguments: a struct of the
+// two would be made from the parked call at each call and taken apart at once.
 #![tactic(auto)]
 
 ghost use Rattle.std.specs.Prelude.{◌≡◌};
@@ -8,8 +9,7 @@ ghost use Rattle.waits.specs.Waits.{wanted, found, after_found};
 use phases::{End, Kind, Phase};
 use wanted::{Found, Wanted};
 
-// The flag that is waited for: TC where a `write_read` has sent its bytes. The kind of a call and `more` both come from the parked call, whose
-// crate stands above.
+// The flag that is waited for: TC where a `write_read` has sent its bytes.
 pub fn wanted(kind: Kind, more: bool) -> Wanted
     ensures { result ≡ wanted kind more }
 {

@@ -10,7 +10,6 @@ pub through-requires : goal.through-requires
 through-requires c = let o = rw c.in-Some.is at (c.opened.ensures c.args.send.now) in
     let k = o.1 in record {
       within = (k.words, k.room);
-      waits = ap (λ (q : Progress). q.parked.phase) o.0;
       send = ap (λ (q : Progress). q.parked.send) o.0 ∙ c.if-call-send.true;
       receive = ap (λ (q : Progress). q.parked.receive) o.0 ∙ c.if-call-receive.true ∙ sym k.wide;
     }

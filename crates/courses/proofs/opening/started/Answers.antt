@@ -8,19 +8,19 @@ use Rattle.courses.proofs.Parts.{opens_by}
 use Rattle.courses.proofs.opening.started.Goals as goal
 
 pub returns-in-Write : goal.returns-in-Write
-returns-in-Write c = λ s b. rw (c.then_some.ensures, c.waits.ensures)
-    (opens_by c.open_write.result c.open_write.ensures
+returns-in-Write c = λ s b. rw c.then_some.ensures
+    (opens_by _ c.open_write.result c.waits.ensures c.open_write.ensures
     (λ h. rw (ap (λ (f : Phase). at_phase c.args.call f c.args.call.count) c.requires)
     (open_write s c.args.words.now c.args.log.now b c.args.call c.args.call.count (sym c.starting.ensures ∙ c.if-starting.false) c.in-Write.is (omega (arith, c.in-len3-up.len_at_least)) h)))
 
 pub returns-in-Read : goal.returns-in-Read
-returns-in-Read c = λ s b. rw (c.then_some-in-Read.ensures, c.waits-in-Read.ensures)
-    (opens_by c.open_read.result c.open_read.ensures
+returns-in-Read c = λ s b. rw c.then_some-in-Read.ensures
+    (opens_by _ c.open_read.result c.waits-in-Read.ensures c.open_read.ensures
     (λ h. rw (ap (λ (f : Phase). at_phase c.args.call f c.args.call.count) c.requires)
     (open_read s c.args.words.now c.args.log.now b c.args.call c.args.call.count (sym c.starting.ensures ∙ c.if-starting.false) c.in-Read.is (omega (arith, c.in-len3-up.len_at_least)) h)))
 
 pub returns-in-WriteRead : goal.returns-in-WriteRead
-returns-in-WriteRead c = λ s b. rw (c.then_some-in-WriteRead.ensures, c.waits-in-WriteRead.ensures)
-    (opens_by c.open_write_read.result c.open_write_read.ensures
+returns-in-WriteRead c = λ s b. rw c.then_some-in-WriteRead.ensures
+    (opens_by _ c.open_write_read.result c.waits-in-WriteRead.ensures c.open_write_read.ensures
     (λ h. rw (ap (λ (f : Phase). at_phase c.args.call f c.args.call.count) c.requires)
     (open_write_read s c.args.words.now c.args.log.now b c.args.call c.args.call.count (sym c.starting.ensures ∙ c.if-starting.false) c.in-WriteRead.is (omega (arith, c.in-len3-up.len_at_least)) h)))

@@ -1,4 +1,5 @@
--- `kept::taken::phase_of` meets its contract: a number above the last is past the list.
+-- `kept::taken::phase_of` meets its contract: a number above the last is past the list. With this as a law named on the function the search gives
+-- up at one of its limits.
 use Prim.Native.Nat.{◌≤◌}
 use mathlib.Core.Path.{sym}
 use native.Mathlib.Omega.{arith}

@@ -8,8 +8,8 @@ use Rattle.runs.proofs.Phased.{wanted_in}
 use Rattle.stretches.proofs.Moves.{receive_one, idle, receives_on}
 use Rattle.stretches.proofs.stretch.receive_bytes.Goals as goal
 
-pub loop-p-preserved-in-Some-true : goal.loop-p-preserved-in-Some-true
-loop-p-preserved-in-Some-true c = let q = rw (c.in-Some-true.is, c.in-Some-true.field-0-test) at c.polled.ensures in
+pub loop-p-preserved-in-Some-Byte : goal.loop-p-preserved-in-Some-Byte
+loop-p-preserved-in-Some-Byte c = let q = rw (c.in-Some-Byte.is, c.in-Some-Byte.field-0-is) at c.polled.ensures in
     let p = c.loop-p.p in
     let both : p.taken + 2 ≤ length c.args.words.now = omega (arith, c.if-p-words.true) in (
       receives_on c.loop-p.invariant.0 (omega arith) (omega (arith, q.1)) c.polled.auto.log (length-set c.loop-p.receive p.parked.count _) refl
@@ -18,7 +18,7 @@ loop-p-preserved-in-Some-true c = let q = rw (c.in-Some-true.is, c.in-Some-true.
     )
 
 pub loop-p-preserved : goal.loop-p-preserved
-loop-p-preserved c = let q = rw (c.in-Some-false.is, c.in-Some-false.field-0-test) at c.polled.ensures in
+loop-p-preserved c = let q = rw (c.in-Some-NoFlag.is, c.in-Some-NoFlag.field-0-is) at c.polled.ensures in
     let p = c.loop-p.p in
     let one : p.taken < length c.args.words.now = omega (arith, c.if-p-words.true) in (
       receives_on c.loop-p.invariant.0 one q.1 c.polled.auto.log refl refl

@@ -1,17 +1,32 @@
 -- `stretches::stretch::send_bytes` meets its contract: a word and its accesses carry the run on.
+use Prim.Native.Nat.{◌<◌}
 use mathlib.Core.Path.{refl}
 use native.Mathlib.Omega.{arith}
-use Rattle.stretches.proofs.Moves.{send_one, idle_out, sends_on}
+use lib.ListN.{length}
+use Rattle.stretches.proofs.Moves.{word_left, send_one, idle_out, sends_on}
 use Rattle.stretches.proofs.stretch.send_bytes.Goals as goal
+use Rattle.stretches.proofs.stretch.send_bytes.Goals.{in-Byte, in-NoFlag}
 
-pub loop-p-preserved-in-Some-true : goal.loop-p-preserved-in-Some-true
-loop-p-preserved-in-Some-true c = let q = rw (c.in-Some-true.is, c.in-Some-true.field-0-test) at c.polled.ensures in
-    let p = c.loop-p.p in
-    sends_on c.loop-p.invariant c.if-p-words.true (omega (arith, q.1)) c.polled.auto.log refl
-    (λ b w i l. rw (q.2, c.byte_out-sent.ensures) (send_one c.args.send.now c.args.words.now c.loop-p.log b p.parked p.taken p.logged w i l c.loop-p-test.true c.if-p-words.true q.1 q.0))
-
-pub loop-p-preserved : goal.loop-p-preserved
-loop-p-preserved c = let q = rw (c.in-Some-false.is, c.in-Some-false.field-0-test) at c.polled.ensures in
-    let p = c.loop-p.p in
-    sends_on c.loop-p.invariant c.if-p-words.true q.1 c.polled.auto.log refl
-    (λ b w i l. rw q.2 (idle_out c.args.send.now c.args.words.now c.loop-p.log b p.parked p.taken p.logged w i l c.loop-p-test.true c.if-p-words.true q.1 q.0))
+pub loop-isr-preserved : goal.loop-isr-preserved
+loop-isr-preserved c = let p = c.loop-isr.p in
+    let ws = c.args.words.now in
+    let at = c.loop-isr.invariant.1 in
+    let left = c.in-Some.ensures.lookup.0 in
+    let one : p.taken < length ws = omega (arith, at, left.3, c.loop-isr-test.true) in
+    let isr = word_left ws _ _ c.loop-isr.isr-index p.taken left.2 at in
+    elim c.match-seen.branch [
+      | in-Byte w ↦
+          let q = rw (w.in-Byte.is, isr) at c.in-Some-polled.ensures in
+          rw w.p-is (
+            sends_on c.loop-isr.invariant.0 one (omega (arith, q.1)) c.polled.auto.log refl
+                (λ b f o l. rw (q.2, c.byte_out-sent.ensures) (send_one c.args.send.now ws c.loop-isr.log b p.parked p.taken p.logged f o l c.if-send-p.false one q.1 q.0)),
+            omega (arith, at),
+          )
+      | in-NoFlag w ↦
+          let q = rw (w.in-NoFlag.is, isr) at c.in-Some-polled.ensures in
+          rw w.p-is (
+            sends_on c.loop-isr.invariant.0 one q.1 c.polled.auto.log refl
+                (λ b f o l. rw q.2 (idle_out c.args.send.now ws c.loop-isr.log b p.parked p.taken p.logged f o l c.if-send-p.false one q.1 q.0)),
+            omega (arith, at),
+          )
+    ]

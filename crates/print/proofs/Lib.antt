@@ -1,0 +1,3 @@
+pub mod Accesses
+pub mod Padded
+pub mod Pairs
