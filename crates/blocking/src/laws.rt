@@ -3,11 +3,13 @@ ghost use Rattle.runs.specs.BufferLaw.{BufferLaw};
 ghost use Rattle.runs.specs.CutLaw.{CutLaw};
 
 // However the words are cut, the runs joined are one uncut run.
+#[tactic(auto, using(runs::proofs::Cuts::cut_law))]
 pub fn cut_law()
     ensures { CutLaw }
 {}
 
 // The bytes that came in stand in the buffer one after the other, and nothing else changed.
+#[tactic(auto, using(runs::proofs::Buffers::buffer_law))]
 pub fn buffer_law()
     ensures { BufferLaw }
 {}

@@ -15,7 +15,8 @@ use registers::oar::{Oar1, Oar2};
 use registers::timingr::Timingr;
 use settling::{try_settle, word_at};
 
-// Sets the unit up as the configuration says. `oar1` is the driver's own reading of the first own address.
+// Sets the unit up as the configuration says. `oar1` is the driver's own reading of the first own address. That an accepted set-up logs
+// something is handed on by three contracts to the one function that asks for it, which would take a type of its own apart at once.
 #[tactic(auto, unfolding(crate::specs::SetUp::set_up))]
 pub fn try_set_up(
     config: Config,
