@@ -33,7 +33,8 @@ pub enum Answer {
     ArbitrationLost,
     // How many bytes went before the frame ended.
     IncorrectFrameSize(usize),
-    // The refusals by their own names: an answer is one list, and with a `Refusal` inside it a match on one would be two.
+    // From here to 12 by their own names, and no `Refusal` inside: a start that read CR2 answers 6, and a run that made accesses 9 or 10, which
+    // refuse nothing.
     BadLength,
     NoRate,
     BadFilter,

@@ -16,7 +16,7 @@ pub fn compared(kind: Kind, more: bool, span: usize) -> usize
     if kind.restarts() && !more { 254 } else { span }
 }
 
-// `flush_txdr`, at STOPF: the phase after its second read of ISR. TXE is written where it is set.
+// `flush_txdr`, at STOPF: the phase after its second read of ISR. TXE is written where it is set. One question with a name of its own, as in `parked`.
 pub fn pending_txe(isr: u32) -> Phase
     ensures { result ≡ cond (isr has TXE) Phase.FlushEmpty Phase.ClearStopf }
 {
