@@ -8,6 +8,7 @@ _Static_assert(offsetof(struct i2c_link, watchdog) == 2, "watchdog");
 _Static_assert(offsetof(struct i2c_link, index) == 8, "index");
 _Static_assert(offsetof(struct i2c_link, length) == 16, "length");
 _Static_assert(offsetof(struct i2c_link, errors) == 24, "errors");
+_Static_assert(offsetof(struct i2c_link, marks) == 28, "marks");
 _Static_assert(offsetof(struct i2c_link, length_write_read) == 32, "length_write_read");
 _Static_assert(offsetof(struct i2c_link, data) == 40, "data");
 
@@ -33,7 +34,7 @@ static void non_blocking(void)
     uint32_t config[10] = {1, 100000, 0, 0, 1, 0, 0, 0, 0, 0}, set_up[8] = {0}, set_up_log[64];
     i2c_construct(&m.link, config, 16000000, set_up, 8, set_up_log, 64, out);
     same("constructed", out[0], 0);
-    same("fresh", m.link.address | m.link.watchdog | m.link.errors | m.link.data[0] | m.link.data[254], 0);
+    same("fresh", m.link.address | m.link.watchdog | m.link.errors | m.link.marks | m.link.data[0] | m.link.data[254], 0);
     i2c_master_write(&m.link, 0x50, bytes, 2, words, 3, log, 16, out);
     same("a start is answered", out[0], 0);
     same("its values", out[3] | out[4] | out[5], 0);
@@ -43,6 +44,7 @@ static void non_blocking(void)
     same("index", m.link.index, 0);
     same("length", m.link.length, 2);
     same("errors", m.link.errors, 0);
+    same("marks", m.link.marks, 0);
     same("length_write_read", m.link.length_write_read, 0);
     same("first byte", m.link.data[0], 0x12);
     same("second byte", m.link.data[1], 0x34);

@@ -2,6 +2,7 @@
 """Brings the repository's own names in definitions and lemmas to snake case: `directionOf` to `direction_of`, `every-field` to `every_field`.
 
 usage: tools/respell-names.py [FOLDER]      once, at the top of a checkout, after port.py
+It was run once, at the port, and names a file of that day, so it cannot run on the tree as it is today.
 A name turns where the repository defines it: in specs/, in a lemma file of proofs/, or as a helper in a function's proof file. Names that the
 prover makes (the answers to its goals), names of its library, Rust's names and register fields of capitals stay. Text in quotes stays.
 It stops where two names would fall together.

@@ -11,6 +11,7 @@ pub struct Link {
     pub index: usize,
     pub length: usize,
     pub errors: u32,
+    pub marks: u32,
     pub length_write_read: usize,
     pub data: [u8; 255],
 }
@@ -155,6 +156,7 @@ impl Ours {
             index: 0,
             length: 0,
             errors: 0,
+            marks: 0,
             length_write_read: 0,
             data: [0; 255],
         };

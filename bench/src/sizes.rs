@@ -40,7 +40,7 @@ pub fn code(original: &str, ours: &str) -> Vec<Size> {
         ours: size_of_function(&ours, &format!("i2c_{name}")),
     };
     // Only the constructors need it, and they are not measured.
-    let unmeasured = "construction::set_up";
+    let unmeasured = "registers::construct::set_up";
     let shared = ours.iter().filter(|(name, _)| !name.starts_with("i2c_") && !name.starts_with(unmeasured));
     let shared = shared.map(|(name, size)| Size {
         name: format!("`{name}`, shared by several"),

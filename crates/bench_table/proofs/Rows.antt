@@ -4,17 +4,18 @@ use Prim.Native.Nat.{ℕ, ◌+◌}
 use mathlib.Core.Path.{◌≡◌, refl}
 use mathlib.Core.List.{List, [], ◌∷◌, ◌++◌, map}
 use lib.ListN.{length, get_or}
-use Rattle.fields.specs.Field.{digit}
-use Rattle.config.specs.declared.Config.{Config}
+use Rattle.registers.specs.Field.{digit}
+use Rattle.registers.specs.declared.config.Config.{Config}
 use Rattle.std.specs.Prelude.{Some, None, unwrap_or}
-use Rattle.fields.specs.Layout.{Register, offset}
-use Rattle.config.specs.Config.{mask_number, plain, timing_bits, period}
-use Rattle.access.specs.Access.{entries}
-use Rattle.ending.specs.Link.{fresh}
-use Rattle.ending.specs.Outcome.{outcome}
-use Rattle.ending.specs.EqualEnding.{ran}
-use Rattle.construction.specs.Drivers.{non_blocking_construction, blocking_construction}
-use Rattle.ending.specs.Call.{Call, Step, master_write, master_write_read, master_read, slave_write, check_isr_flags, execute_watchdog, get_errors_reset, master_get_data, slave_get_data, get_address, listen, unlisten, slave_sbc, set_address}
+use Rattle.registers.specs.Layout.{Register, offset}
+use Rattle.registers.specs.Config.{mask_number, plain}
+use Rattle.registers.specs.Timing.{timing_bits, period}
+use Rattle.registers.specs.CallLog.{entries}
+use Rattle.nonblocking_meaning.specs.Link.{fresh}
+use Rattle.nonblocking_meaning.specs.Outcome.{outcome}
+use Rattle.nonblocking_meaning.specs.EqualEnding.{ran}
+use Rattle.registers.specs.Construct.{non_blocking_construction, blocking_construction}
+use Rattle.nonblocking_meaning.specs.Call.{Call, Step, master_write, master_write_read, master_read, slave_write, check_isr_flags, execute_watchdog, get_errors_reset, master_get_data, slave_get_data, get_address, listen, unlisten, slave_sbc, set_address}
 use Rattle.bench_table.specs.Table.{Driver, non_blocking, blocking, Case, timing, scl_period, constructed, answer, log, beside, gives, Row, table}
 
 -- the non-blocking driver is 0, the blocking one 1

@@ -1,21 +1,32 @@
 -- The bench-table statement from one test that is computed over the whole table, and one law that turns a passed test into the rows.
 use Prim.Native.Nat.{ℕ}
 use mathlib.Core.Path.{◌≡◌, refl}
-use mathlib.Core.Bool.{true, false≢true, and-eq-true_iff}
+use mathlib.Core.Bool.{Bool, true, false, ◌&&◌, false≢true, and-eq-true_iff}
 use mathlib.Core.List.{List, [], ◌∷◌, Memᴰ}
 use lib.Dec.{eqb}
 use borrow.Author.Tests.{eqb-true}
-use Rattle.fields.specs.Field.{get, put, is_set}
-use Rattle.fields.specs.Words.{configured, started, own_seven, own_ten, own_second}
-use Rattle.flag_order.specs.FlagOrder.{taken_as}
-use Rattle.config.specs.Config.{timing_bits, period}
-use Rattle.construction.specs.SetUp.{set_up}
-use Rattle.limits.specs.Limits.{one_more}
-use Rattle.ending.specs.Link.{impossible}
-use Rattle.ending.specs.Outcome.{outcome}
-use Rattle.ending.specs.EqualEnding.{ran}
-use Rattle.bench_table.specs.Table.{Row, gives, table, same, agrees}
+use Rattle.registers.specs.Field.{get, put, is_set}
+use Rattle.registers.specs.Words.{configured, started, own_seven, own_ten, own_second}
+use Rattle.registers.specs.FlagOrder.{taken_as}
+use Rattle.registers.specs.Timing.{timing_bits, period}
+use Rattle.registers.specs.Construct.{set_up}
+use Rattle.nonblocking_meaning.specs.Link.{one_more}
+use Rattle.nonblocking_meaning.specs.Link.{impossible}
+use Rattle.nonblocking_meaning.specs.Outcome.{outcome}
+use Rattle.nonblocking_meaning.specs.EqualEnding.{ran}
+use Rattle.bench_table.specs.Table.{Row, gives, table}
 use Rattle.bench_table.specs.BenchTable.{BenchTable}
+
+-- the test: two lists have the same numbers; each row's case gives the row's numbers
+abbrev same : List ℕ → List ℕ → Bool
+same [] [] = true
+same [] (y ∷ ys) = false
+same (x ∷ xs) [] = false
+same (x ∷ xs) (y ∷ ys) = eqb x y && same xs ys
+
+abbrev agrees : List Row → Bool
+agrees [] = true
+agrees (row ∷ rows) = same (gives row.case) row.must && agrees rows
 
 -- lists that the test takes as the same are equal
 same_equal : (xs ys : List ℕ) → same xs ys ≡ true → xs ≡ ys

@@ -1,16 +1,17 @@
 -- Document 01's bench table: one list of cases, with the numbers that each must give.
-use Rattle.std.specs.Prelude.{ℕ, ◌+◌, Bool, true, false, ◌&&◌, cond, Some, None, List, [], ◌∷◌, eqb, replicate}
-use Rattle.config.specs.declared.Config.{Config}
-use Rattle.config.specs.declared.SlaveAddressMask.TheVariants.{MaskOneBit}
-use Rattle.fields.specs.Layout.{Register, offset, OAR1, OAR2}
-use Rattle.access.specs.Access.{Settled, entries}
-use Rattle.answers.specs.Answers.{Said}
-use Rattle.config.specs.Config.{plain, with_own_address, with_second_address, timing_bits, period}
-use Rattle.ending.specs.Link.{fresh}
-use Rattle.ending.specs.Call.{Step, master_write, check_isr_flags, get_errors_reset}
-use Rattle.ending.specs.Outcome.{outcome}
-use Rattle.ending.specs.EqualEnding.{ran, step}
-use Rattle.construction.specs.Drivers.{non_blocking_construction, blocking_construction}
+use Rattle.std.specs.Prelude.{ℕ, ◌+◌, Bool, true, false, cond, Some, None, List, [], ◌∷◌, eqb, replicate}
+use Rattle.registers.specs.declared.config.Config.{Config}
+use Rattle.registers.specs.declared.config.SlaveAddressMask.TheVariants.{MaskOneBit}
+use Rattle.registers.specs.Layout.{Register, offset, OAR1, OAR2}
+use Rattle.registers.specs.CallLog.{CallOutcome, entries}
+use Rattle.registers.specs.Answers.{Said}
+use Rattle.registers.specs.Config.{plain, with_own_address, with_second_address}
+use Rattle.registers.specs.Timing.{timing_bits, period}
+use Rattle.nonblocking_meaning.specs.Link.{fresh}
+use Rattle.nonblocking_meaning.specs.Call.{Step, master_write, check_isr_flags, get_errors_reset}
+use Rattle.nonblocking_meaning.specs.Outcome.{outcome}
+use Rattle.nonblocking_meaning.specs.EqualEnding.{ran, step_of}
+use Rattle.registers.specs.Construct.{non_blocking_construction, blocking_construction}
 
 pub data Driver : Type 0 where
   non_blocking blocking : Driver
@@ -38,7 +39,7 @@ beside number [] = []
 beside number (n ∷ []) = []
 beside number (n ∷ word ∷ rest) = cond (eqb n number) (word ∷ beside number rest) (beside number rest)
 
-abbrev pub construction : Driver → Config → ℕ → List ℕ → ℕ → Settled
+abbrev pub construction : Driver → Config → ℕ → List ℕ → ℕ → CallOutcome
 construction non_blocking = non_blocking_construction
 construction blocking = blocking_construction
 
@@ -63,13 +64,13 @@ second address = with_second_address address MaskOneBit (plain (Some 100_000) No
 
 -- `master_write` to 0x50, where CR2 reads as this word; a check, where ISR reads as this word; `get_errors_reset`
 abbrev pub write : List ℕ → ℕ → Step
-write bytes cr2 = step (master_write 0x50 bytes) (cr2 ∷ cr2 ∷ []) 100
+write bytes cr2 = step_of (master_write 0x50 bytes) (cr2 ∷ cr2 ∷ []) 100
 
 abbrev pub check : ℕ → Step
-check isr = step check_isr_flags (isr ∷ []) 100
+check isr = step_of check_isr_flags (isr ∷ []) 100
 
 abbrev pub errors : Step
-errors = step get_errors_reset [] 100
+errors = step_of get_errors_reset [] 100
 
 pub record Row : Type 0 where
   pub case : Case
@@ -114,14 +115,3 @@ table =
     ∷ (answer [] (write (replicate 255 1) 0) ⇒ 0 ∷ [])
     ∷ (answer [] (write (replicate 256 1) 0) ⇒ 6 ∷ [])
     ∷ []
-
--- the test: two lists have the same numbers; each row's case gives the row's numbers
-abbrev pub same : List ℕ → List ℕ → Bool
-same [] [] = true
-same [] (y ∷ ys) = false
-same (x ∷ xs) [] = false
-same (x ∷ xs) (y ∷ ys) = eqb x y && same xs ys
-
-abbrev pub agrees : List Row → Bool
-agrees [] = true
-agrees (row ∷ rows) = same (gives row.case) row.must && agrees rows

@@ -6,15 +6,15 @@ use native.Mathlib.Nat.{sub-zero, add-zero}
 use native.Mathlib.Omega.{arith}
 use lib.ListN.{length, take, drop, take-append-drop}
 use lib.Seq.{length-take-le}
-use Rattle.access.specs.Access.{over}
-use Rattle.phases.specs.declared.End.{End}
+use Rattle.registers.specs.CallLog.{over}
+use Rattle.parked.specs.declared.phases.End.{End}
 use Rattle.parked.specs.declared.Parked.{Parked}
-use Rattle.parked.specs.After.{answer}
-use Rattle.runs.specs.declared.Ran.{Ran}
-use Rattle.runs.specs.Run.{Outcome, stopped, joined, runs, Whole}
-use Rattle.runs.proofs.OneAccess.{joined-none}
-use Rattle.stretches.specs.declared.Progress.{Progress}
-use Rattle.stretches.specs.Stretches.{Going, Carried}
+use Rattle.parked.specs.BusyWait.{answer}
+use Rattle.blocking_meaning.specs.declared.Ran.{Ran}
+use Rattle.blocking_meaning.specs.Run.{RunOutcome, without_access, joined, runs, RunMatches}
+use Rattle.blocking_meaning.proofs.HandedOn.{joined-none}
+use Rattle.blocking.specs.declared.plain_bytes.Progress.{Progress}
+use Rattle.blocking.specs.PlainBytes.{Going, Carried}
 use Rattle.blocking.specs.Steps.{Answered, Rest}
 
 pub going_none : (s ws start : List ℕ) (p : Parked) (b : List ℕ) → Going s ws start p b start p b 0 0
@@ -29,9 +29,9 @@ over_front (suc g) (x ∷ xs) [] numbers e = absurd (omega arith)
 over_front (suc g) (x ∷ xs) (y ∷ ys) numbers e = ap {B = List ℕ} (λ r. x ∷ r) (over_front g xs ys numbers (omega arith))
 
 -- what a run made before and the whole outcome of its rest, over the same log: those of the run from its start
-pub from_start : {s ws start : List ℕ} {p₀ : Parked} {b₀ log : List ℕ} {p : Parked} {b : List ℕ} {t g : ℕ} (q : Outcome) {r : Ran} {log' b' : List ℕ} → length log ≡ length start
+pub from_start : {s ws start : List ℕ} {p₀ : Parked} {b₀ log : List ℕ} {p : Parked} {b : List ℕ} {t g : ℕ} (q : RunOutcome) {r : Ran} {log' b' : List ℕ} → length log ≡ length start
     → Going s ws start p₀ b₀ log p b t g → runs s ((length log - g) / 2) p b (drop t ws) ≡ q
-    → Whole (joined t (take g log) q) log r log' b' → Whole (runs s (length start / 2) p₀ b₀ ws) start r log' b'
+    → RunMatches (joined t (take g log) q) log r log' b' → RunMatches (runs s (length start / 2) p₀ b₀ ws) start r log' b'
 from_start {s} {ws} {start} {p₀} {b₀} {log} {p} {b} {t} {g} q {r} {log'} {b'} e h k w =
     let all : runs s (length start / 2) p₀ b₀ ws ≡ joined t (take g log) q =
     h.run ∙ ap (joined t (take g log)) (ap (λ (m : ℕ). runs s ((m - g) / 2) p b (drop t ws)) (sym e) ∙ k) in
@@ -44,12 +44,12 @@ from_start {s} {ws} {start} {p₀} {b₀} {log} {p} {b} {t} {g} q {r} {log'} {b'
       buffer = w.buffer;
     })
 
--- the run is over: its whole outcome
+-- the run has ended: its whole outcome
 pub finish : (s ws start : List ℕ) (p₀ : Parked) (b₀ log : List ℕ) (p : Progress) (b : List ℕ) (a : End) (r : Ran) → p.logged ≤ length log → length log ≡ length start
-    → Going s ws start p₀ b₀ log p.parked b p.taken p.logged → runs s ((length log - p.logged) / 2) p.parked b (drop p.taken ws) ≡ stopped (answer a p.parked) p.parked b
-    → Answered p a r → Whole (runs s (length start / 2) p₀ b₀ ws) start r log b
+    → Going s ws start p₀ b₀ log p.parked b p.taken p.logged → runs s ((length log - p.logged) / 2) p.parked b (drop p.taken ws) ≡ without_access (answer a p.parked) p.parked b
+    → Answered p a r → RunMatches (runs s (length start / 2) p₀ b₀ ws) start r log b
 finish s ws start p₀ b₀ log p b a r hg hl h e k =
-    from_start (stopped (answer a p.parked) p.parked b) hl h e (record {
+    from_start (without_access (answer a p.parked) p.parked b) hl h e (record {
       answer = k.answer;
       parked = k.parked;
       taken = k.taken ∙ sym (add-zero p.taken);
@@ -60,6 +60,6 @@ finish s ws start p₀ b₀ log p b a r hg hl h e k =
 
 -- the rest of a run, where no access follows
 pub ended : {s ws log₀ b₀ log b : List ℕ} {p₀ p : Progress} {q : Ran} → Carried s ws log₀ b₀ p₀ log b p → (a : End)
-    → runs s ((length log - p.logged) / 2) p.parked b (drop p.taken ws) ≡ stopped (answer a p.parked) p.parked b → Answered p a q → Rest s ws log₀ b₀ p₀ q log b
+    → runs s ((length log - p.logged) / 2) p.parked b (drop p.taken ws) ≡ without_access (answer a p.parked) p.parked b → Answered p a q → Rest s ws log₀ b₀ p₀ q log b
 ended {s} {ws} {log₀} {b₀} {log} {b} {p₀} {p} {q} c a e o =
     λ start p₁ b₁ same g. finish s ws start p₁ b₁ log p b a q c.room (c.long ∙ sym same) (c.going start p₁ b₁ same g) e o

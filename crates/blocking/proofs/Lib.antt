@@ -1,3 +1,10 @@
+pub mod Accesses
+pub mod Blocks
+pub mod Carries
+pub mod Ends
 pub mod Finish
-pub mod OneTurn
+pub mod Moves
+pub mod AccessInRun
+pub mod Parts
+pub mod Puts
 pub mod Wholes

@@ -6,13 +6,13 @@ use mathlib.Core.Bool.{true, false}
 use mathlib.Core.List.{List}
 use lib.ListN.{length, replicate}
 use lib.Dec.{eqb}
-use Rattle.access.specs.declared.Report.{Report}
-use Rattle.access.specs.Access.{Reported}
-use Rattle.config.specs.declared.Config.{Config}
-use Rattle.ending.specs.Link.{fresh}
-use Rattle.nonblocking.specs.declared.Link.{Link}
+use Rattle.registers.specs.declared.call_log.Report.{Report}
+use Rattle.registers.specs.CallLog.{Reported}
+use Rattle.registers.specs.declared.config.Config.{Config}
+use Rattle.nonblocking_meaning.specs.Link.{fresh}
+use Rattle.nonblocking.specs.declared.link.Link.{Link}
 use Rattle.nonblocking.specs.Model.{model}
-use Rattle.construction.specs.Drivers.{non_blocking_construction}
+use Rattle.registers.specs.Construct.{non_blocking_construction}
 use Rattle.nonblocking.specs.Construct.{Renewed}
 
 -- where nothing is logged, each part of the link stays
@@ -22,6 +22,7 @@ refusal_leaves : (c : Config) (clock : ℕ) (words before : List ℕ) (r : Repor
     × (l'.index ≡ l.index)
     × (l'.length ≡ l.length)
     × (l'.errors ≡ l.errors)
+    × (l'.marks ≡ l.marks)
     × (l'.length_write_read ≡ l.length_write_read)
     × (l'.«data» ≡ l.«data»)
 refusal_leaves c clock words before r l l' after p e =
@@ -31,6 +32,7 @@ refusal_leaves c clock words before r l l' after p e =
       λ i. (same i).index,
       λ i. (same i).length,
       λ i. (same i).errors,
+      λ i. (same i).marks,
       λ i. (same i).length_write_read,
       λ i. (same i).«data»,
     )
@@ -42,6 +44,7 @@ renewed_promised : (c : Config) (clock : ℕ) (words before : List ℕ) (r : Rep
     × (l'.index ≡ 0)
     × (l'.length ≡ 0)
     × (l'.errors ≡ 0)
+    × (l'.marks ≡ 0)
     × (l'.length_write_read ≡ 0)
     × (l'.«data» ≡ replicate 255 0)
     × Reported (non_blocking_construction c clock words (length before)) before r after
@@ -52,6 +55,7 @@ renewed_promised c clock words before r l l' after p e =
       λ i. (new i).index,
       λ i. (new i).length,
       λ i. (new i).errors,
+      λ i. (new i).marks,
       λ i. (new i).length_write_read,
       λ i. (new i).«data»,
       p.report,

@@ -1,14 +1,13 @@
 // The calls of the blocking driver that wait. A call that parks is kept by the caller as seven numbers, and `i2c_blocking_resume` goes on with it.
+
 ghost use Rattle.std.specs.Prelude.{[]};
-ghost use Rattle.runs.specs.Run.{called, outcome, room, Whole};
-ghost use Rattle.kept.specs.Kept.{taken_up};
-ghost use Rattle.leaving.specs.Left.{Left};
-ghost use Rattle.phases.specs.declared.Kind.TheVariants.{Write, Read, WriteRead, SlaveWrite, SlaveRead, SlaveWaitAddressed};
+ghost use Rattle.blocking_meaning.specs.Run.{called, run_outcome, room, RunMatches};
+ghost use Rattle.c_numbers.specs.ParkedCall.{loaded, StoredRun};
+ghost use Rattle.parked.specs.declared.kinds.Kind.TheVariants.{Write, Read, WriteRead, SlaveWrite, SlaveRead, SlaveWaitAddressed};
 
 use blocking::run::run;
 use blocking::{master, slave};
-use leaving::leave;
-use numbered::call::take_up;
+use c_numbers::parked_call::{load, store_run};
 
 #[unsafe(no_mangle)]
 pub extern "C" fn i2c_blocking_write(
@@ -19,9 +18,9 @@ pub extern "C" fn i2c_blocking_write(
     log: &mut [u32],
     out: &mut [u64; 6],
 )
-    ensures { Left (λ r. Whole (called Write address bytes.now (room log.old) [] words.now) log.old r log.new []) parked.new out.new }
+    ensures { StoredRun (λ r. RunMatches (called Write address bytes.now (room log.old) [] words.now) log.old r log.new []) parked.new out.new }
 {
-    leave(master::write(address, bytes, words, log), parked, out);
+    store_run(master::write(address, bytes, words, log), parked, out);
 }
 
 #[unsafe(no_mangle)]
@@ -33,9 +32,9 @@ pub extern "C" fn i2c_blocking_read(
     log: &mut [u32],
     out: &mut [u64; 6],
 )
-    ensures { Left (λ r. Whole (called Read address [] (room log.old) buffer.old words.now) log.old r log.new buffer.new) parked.new out.new }
+    ensures { StoredRun (λ r. RunMatches (called Read address [] (room log.old) buffer.old words.now) log.old r log.new buffer.new) parked.new out.new }
 {
-    leave(master::read(address, buffer, words, log), parked, out);
+    store_run(master::read(address, buffer, words, log), parked, out);
 }
 
 #[unsafe(no_mangle)]
@@ -48,9 +47,10 @@ pub extern "C" fn i2c_blocking_write_read(
     log: &mut [u32],
     out: &mut [u64; 6],
 )
-    ensures { Left (λ r. Whole (called WriteRead address bytes.now (room log.old) buffer.old words.now) log.old r log.new buffer.new) parked.new out.new }
+    ensures { StoredRun (λ r. RunMatches (called WriteRead address bytes.now (room log.old) buffer.old words.now) log.old r log.new buffer.new)
+        parked.new out.new }
 {
-    leave(
+    store_run(
         master::write_read(address, bytes, buffer, words, log),
         parked,
         out,
@@ -65,9 +65,9 @@ pub extern "C" fn i2c_blocking_slave_write(
     log: &mut [u32],
     out: &mut [u64; 6],
 )
-    ensures { Left (λ r. Whole (called SlaveWrite 0 bytes.now (room log.old) [] words.now) log.old r log.new []) parked.new out.new }
+    ensures { StoredRun (λ r. RunMatches (called SlaveWrite 0 bytes.now (room log.old) [] words.now) log.old r log.new []) parked.new out.new }
 {
-    leave(slave::slave_write(bytes, words, log), parked, out);
+    store_run(slave::slave_write(bytes, words, log), parked, out);
 }
 
 #[unsafe(no_mangle)]
@@ -78,9 +78,9 @@ pub extern "C" fn i2c_blocking_slave_read(
     log: &mut [u32],
     out: &mut [u64; 6],
 )
-    ensures { Left (λ r. Whole (called SlaveRead 0 [] (room log.old) buffer.old words.now) log.old r log.new buffer.new) parked.new out.new }
+    ensures { StoredRun (λ r. RunMatches (called SlaveRead 0 [] (room log.old) buffer.old words.now) log.old r log.new buffer.new) parked.new out.new }
 {
-    leave(slave::slave_read(buffer, words, log), parked, out);
+    store_run(slave::slave_read(buffer, words, log), parked, out);
 }
 
 #[unsafe(no_mangle)]
@@ -90,9 +90,9 @@ pub extern "C" fn i2c_blocking_slave_wait_addressed(
     log: &mut [u32],
     out: &mut [u64; 6],
 )
-    ensures { Left (λ r. Whole (called SlaveWaitAddressed 0 [] (room log.old) [] words.now) log.old r log.new []) parked.new out.new }
+    ensures { StoredRun (λ r. RunMatches (called SlaveWaitAddressed 0 [] (room log.old) [] words.now) log.old r log.new []) parked.new out.new }
 {
-    leave(slave::slave_wait_addressed(words, log), parked, out);
+    store_run(slave::slave_wait_addressed(words, log), parked, out);
 }
 
 // Goes on with a parked call over the words that follow.
@@ -105,8 +105,9 @@ pub extern "C" fn i2c_blocking_resume(
     log: &mut [u32],
     out: &mut [u64; 6],
 )
-    ensures { Left (λ r. Whole (outcome send.now (room log.old) (taken_up parked.old) receive.old words.now) log.old r log.new receive.new) parked.new out.new }
+    ensures { StoredRun (λ r. RunMatches (run_outcome send.now (room log.old) (loaded parked.old) receive.old words.now) log.old r log.new
+        receive.new) parked.new out.new }
 {
-    let call = take_up(parked);
-    leave(run(call, send, receive, words, log), parked, out);
+    let call = load(parked);
+    store_run(run(call, send, receive, words, log), parked, out);
 }

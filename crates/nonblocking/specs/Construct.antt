@@ -1,12 +1,12 @@
--- Construction: the registers' set-up, and a fresh link.
+-- Document 01, nonblocking.rs: 'at construction all are 0', and row 7: 'nothing changed'. Construction: the registers' set-up, and a fresh link.
 use Rattle.std.specs.Prelude.{ℕ, ◌≡◌, cond, List, length, eqb}
-use Rattle.access.specs.declared.Report.{Report}
-use Rattle.config.specs.declared.Config.{Config}
-use Rattle.access.specs.Access.{Reported}
-use Rattle.construction.specs.Drivers.{non_blocking_construction}
-use Rattle.nonblocking.specs.declared.Link.{Link}
+use Rattle.registers.specs.declared.call_log.Report.{Report}
+use Rattle.registers.specs.declared.config.Config.{Config}
+use Rattle.registers.specs.CallLog.{Reported}
+use Rattle.registers.specs.Construct.{non_blocking_construction}
+use Rattle.nonblocking.specs.declared.link.Link.{Link}
 use Rattle.nonblocking.specs.Model.{model}
-use Rattle.ending.specs.Link.{fresh}
+use Rattle.nonblocking_meaning.specs.Link.{fresh}
 
 pub record Constructed (c : Config) (clock : ℕ) (words before : List ℕ) (r : Report) (l : Link) (after : List ℕ) : Type 0 where
   pub link : model l ≡ fresh

@@ -1,15 +1,15 @@
 // Construction.
+
 ghost use Rattle.std.specs.Prelude.{◌≡◌, ◌<◌, IfOk, length};
-ghost use Rattle.construction.specs.Drivers.{own_ten_or_seven, non_blocking_construction};
-ghost use Rattle.access.specs.Access.{Reported};
-ghost use Rattle.access.specs.Reports.{report_of};
+ghost use Rattle.registers.specs.CallLog.{report_of, Reported};
+ghost use Rattle.registers.specs.Construct.{own_ten_or_seven, non_blocking_construction};
 ghost use Rattle.nonblocking.specs.Construct.{Constructed, Renewed};
 
-use crate::{Called, Link};
-use access::Report;
-use answers::Refusal;
-use config::Config;
-use construction::try_set_up;
+use crate::link::{Called, Link};
+use registers::answers::Refusal;
+use registers::call_log::Report;
+use registers::config::Config;
+use registers::construct::set_up;
 use registers::oar::Oar1;
 
 impl Link {
@@ -42,7 +42,7 @@ fn try_i2c1(config: Config, clock: u32, words: &[u32], log: &mut [u32]) -> Resul
     ensures logged { IfOk result (λ report. 0 < report.logged) }
 {
     let oar1 = own_address(config.slave_address_1, config.address_11bits);
-    try_set_up(config, clock, oar1, words, log)
+    set_up(config, clock, oar1, words, log)
 }
 
 // OAR1 as this driver writes it: all ten bits of a long address.

@@ -1,17 +1,18 @@
-// Calls on a lent link, each handing on to the method that the by-value call hands on to, so that no link is copied.
-ghost use Rattle.std.specs.Prelude.{ℕ, List, length as size};
-ghost use Rattle.ending.specs.Call.{check_isr_flags, master_write, master_write_read, master_read, slave_write, execute_watchdog, get_errors_reset};
-ghost use Rattle.ending.specs.Outcome.{outcome, Matches};
-ghost use Rattle.nonblocking.specs.Model.{model};
+// The calls on a lent link. `execute_watchdog` and `get_errors_reset` hand on to the method of their name, as document 01 has it; the others hand on
+// to the core, to which the call by value hands on too, so that no link is copied where bytes move.
 
-use crate::Link;
-use access::Report;
+ghost use Rattle.std.specs.Prelude.{ℕ, List};
+ghost use Rattle.nonblocking.specs.Meets.{Meets};
+ghost use Rattle.nonblocking_meaning.specs.Call.{check_isr_flags, master_write, master_write_read, master_read, slave_write, execute_watchdog, get_errors_reset};
+
+use crate::link::Link;
+use registers::call_log::Report;
 
 // `check_isr_flags` on a lent link.
 pub fn check_isr_flags(link: &mut Link, words: &[u32], log: &mut [u32]) -> Report
-    ensures { Matches (outcome (record { call = check_isr_flags; words = words.now; places = size log.old }) (model link.old)) result (model link.new) log.old log.new }
+    ensures { Meets check_isr_flags words.now link.old result link.new log.old log.new }
 {
-    link.check(words, log).unwrap_or_else(Report::from)
+    Report::of(link.check(words, log))
 }
 
 // `master_write` on a lent link.
@@ -22,10 +23,9 @@ pub fn master_write(
     words: &[u32],
     log: &mut [u32],
 ) -> Report
-    ensures { Matches (outcome (record { call = master_write addr bytes.now; words = words.now; places = size log.old }) (model link.old)) result (model link.new) log.old log.new }
+    ensures { Meets (master_write addr bytes.now) words.now link.old result link.new log.old log.new }
 {
-    link.write(addr, bytes, words, log)
-        .unwrap_or_else(Report::from)
+    Report::of(link.write(addr, bytes, words, log))
 }
 
 // `master_write_read` on a lent link.
@@ -37,10 +37,9 @@ pub fn master_write_read(
     words: &[u32],
     log: &mut [u32],
 ) -> Report
-    ensures { Matches (outcome (record { call = master_write_read addr bytes.now read_len; words = words.now; places = size log.old }) (model link.old)) result (model link.new) log.old log.new }
+    ensures { Meets (master_write_read addr bytes.now read_len) words.now link.old result link.new log.old log.new }
 {
-    link.write_read(addr, bytes, read_len, words, log)
-        .unwrap_or_else(Report::from)
+    Report::of(link.write_read(addr, bytes, read_len, words, log))
 }
 
 // `master_read` on a lent link.
@@ -51,29 +50,32 @@ pub fn master_read(
     words: &[u32],
     log: &mut [u32],
 ) -> Report
-    ensures { Matches (outcome (record { call = master_read addr read_len; words = words.now; places = size log.old }) (model link.old)) result (model link.new) log.old log.new }
+    ensures { Meets (master_read addr read_len) words.now link.old result link.new log.old log.new }
 {
-    link.read(addr, read_len, words, log)
-        .unwrap_or_else(Report::from)
+    Report::of(link.read(addr, read_len, words, log))
 }
 
 // `slave_write` on a lent link.
 pub fn slave_write(link: &mut Link, bytes: &[u8], words: &[u32], log: &mut [u32]) -> Report
-    ensures { Matches (outcome (record { call = slave_write bytes.now; words = words.now; places = size log.old }) (model link.old)) result (model link.new) log.old log.new }
+    ensures { Meets (slave_write bytes.now) words.now link.old result link.new log.old log.new }
 {
-    link.offer(bytes, words, log).unwrap_or_else(Report::from)
+    Report::of(link.offer(bytes, words, log))
 }
 
 // `execute_watchdog` on a lent link.
 pub fn execute_watchdog(link: &mut Link, words: &[u32], log: &mut [u32]) -> Report
-    ensures { Matches (outcome (record { call = execute_watchdog; words = words.now; places = size log.old }) (model link.old)) result (model link.new) log.old log.new }
+    ensures { Meets execute_watchdog words.now link.old result link.new log.old log.new }
 {
-    link.tick(words, log).unwrap_or_else(Report::from)
+    let called = link.execute_watchdog(words, log);
+    *link = called.link;
+    called.report
 }
 
 // `get_errors_reset` on a lent link.
 pub fn get_errors_reset(link: &mut Link) -> Report
-    ensures { (words log : List ℕ) → Matches (outcome (record { call = get_errors_reset; words = words; places = size log }) (model link.old)) result (model link.new) log log }
+    ensures { (words log : List ℕ) → Meets get_errors_reset words link.old result link.new log log }
 {
-    link.take_errors().unwrap_or_else(Report::from)
+    let called = link.get_errors_reset();
+    *link = called.link;
+    called.report
 }

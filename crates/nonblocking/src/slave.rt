@@ -1,28 +1,25 @@
 // The slave's calls: `slave_write`, `slave_sbc`, `set_address`.
-ghost use Rattle.std.specs.Prelude.{◌≡◌, false, [], ◌∷◌, length as size, get_or};
-ghost use Rattle.fields.specs.Layout.{ADDR};
-ghost use Rattle.fields.specs.Words.{sized, flushed, cleared};
-ghost use Rattle.answers.specs.Answers.{says};
-ghost use Rattle.ending.specs.Arms.{Settles};
-ghost use Rattle.ending.specs.Call.{slave_write, slave_sbc, set_address};
-ghost use Rattle.ending.specs.Outcome.{outcome, Matches};
-ghost use Rattle.nonblocking.specs.Model.{model};
-ghost use Rattle.nonblocking.specs.Made.{Made};
 
-use crate::{Called, Link};
-use access::Report;
-use answers::{Answer, Refusal};
-use cr2::Cr2;
-use flags::{Icr, Isr};
-use limits::length_allowed;
+ghost use Rattle.std.specs.Prelude.{◌≡◌, []};
+ghost use Rattle.nonblocking_meaning.specs.Plan.{slave_write_accesses};
+ghost use Rattle.registers.specs.CallLog.{word_at, report_of};
+ghost use Rattle.nonblocking.specs.Steps.{Logs};
+ghost use Rattle.nonblocking.specs.Meets.{Meets};
+ghost use Rattle.registers.specs.Answers.{says};
+ghost use Rattle.nonblocking_meaning.specs.Call.{slave_write, slave_sbc, set_address};
+
+use crate::link::{Called, Link};
+use registers::answers::{Answer, Refusal};
+use registers::call_log::{Report, log_call, log_modify, word_at};
 use registers::cr1::Cr1;
+use registers::cr2::Cr2;
+use registers::isr::{Icr, Isr};
 use registers::oar::Oar1;
-use settling::{try_modify, try_settle, word_at};
 
 impl Link {
     // The bytes that the master is to read, after it addressed this slave. Without them the bus stays blocked.
     pub fn slave_write(mut self, bytes: &[u8], words: &[u32], log: &mut [u32]) -> Called
-        ensures { Matches (outcome (record { call = slave_write bytes.now; words = words.now; places = size log.old }) (model self)) result.report (model result.link) log.old log.new }
+        ensures { Meets (slave_write bytes.now) words.now self result.report result.link log.old log.new }
     {
         let tried = self.offer(bytes, words, log);
         Called::of(self, tried)
@@ -31,7 +28,7 @@ impl Link {
     // Switches slave byte control. A transfer in which a master writes and then reads should begin with it off.
     pub fn slave_sbc(self, sbc_enabled: bool, words: &[u32], log: &mut [u32]) -> Called
         ensures same_link { result.link ≡ self }
-        ensures matches { Matches (outcome (record { call = slave_sbc sbc_enabled; words = words.now; places = size log.old }) (model self)) result.report (model result.link) log.old log.new }
+        ensures matches { Meets (slave_sbc sbc_enabled) words.now self result.report result.link log.old log.new }
     {
         let tried = self.byte_control(sbc_enabled, words, log);
         Called::of(self, tried)
@@ -40,24 +37,24 @@ impl Link {
     // Sets and enables the own address of seven bits. It is disabled while it changes.
     pub fn set_address(self, address: u16, words: &[u32], log: &mut [u32]) -> Called
         ensures same_link { result.link ≡ self }
-        ensures matches { Matches (outcome (record { call = set_address address; words = words.now; places = size log.old }) (model self)) result.report (model result.link) log.old log.new }
+        ensures matches { Meets (set_address address) words.now self result.report result.link log.old log.new }
     {
         let tried = self.enable_address(address, words, log);
         Called::of(self, tried)
     }
 
-    #[tactic(auto, unfolding(ending::specs::Outcome::outcome))]
+    #[tactic(auto, unfolding(nonblocking_meaning::specs::Outcome::outcome))]
     pub(crate) fn offer(
         &mut self,
         bytes: &[u8],
         words: &[u32],
         log: &mut [u32],
     ) -> Result<Report, Refusal>
-        ensures { Made (slave_write bytes.now) words.now self.old self.new result log.old log.new }
+        ensures { Meets (slave_write bytes.now) words.now self.old (report_of result) self.new log.old log.new }
     {
         self.possible()?;
         let n = bytes.len();
-        if !length_allowed(n) {
+        if !Cr2::length_allowed(n) {
             return Err(Refusal::BadLength);
         }
         let report = slave_opened(n, words, log)?;
@@ -67,23 +64,23 @@ impl Link {
         Ok(report)
     }
 
-    #[tactic(auto, unfolding(ending::specs::Outcome::outcome))]
+    #[tactic(auto, unfolding(nonblocking_meaning::specs::Outcome::outcome))]
     fn byte_control(&self, on: bool, words: &[u32], log: &mut [u32]) -> Result<Report, Refusal>
-        ensures { Made (slave_sbc on) words.now self.now self.now result log.old log.new }
+        ensures { Meets (slave_sbc on) words.now self.now (report_of result) self.now log.old log.new }
     {
         self.possible()?;
         let cr1 = Cr1::SBC.switch(word_at(words, 0), on);
-        try_modify(Cr1::READ, Cr1::WRITE, cr1, words, log)
+        log_modify(Cr1::READ, Cr1::WRITE, cr1, words, log)
     }
 
-    #[tactic(auto, unfolding(ending::specs::Outcome::outcome))]
+    #[tactic(auto, unfolding(nonblocking_meaning::specs::Outcome::outcome))]
     fn enable_address(
         &self,
         address: u16,
         words: &[u32],
         log: &mut [u32],
     ) -> Result<Report, Refusal>
-        ensures { Made (set_address address) words.now self.now self.now result log.old log.new }
+        ensures { Meets (set_address address) words.now self.now (report_of result) self.now log.old log.new }
     {
         self.possible()?;
         let entries = [
@@ -92,13 +89,13 @@ impl Link {
             Oar1::WRITE,
             Oar1::own_seven(address, false, true),
         ];
-        try_settle(Answer::Done, 0, &entries, words, log)
+        log_call(Answer::Done, 0, &entries, words, log)
     }
 }
 
 // The length is set, TXDR is flushed, and ADDR is cleared.
 fn slave_opened(nbytes: usize, words: &[u32], log: &mut [u32]) -> Result<Report, Refusal>
-    ensures { Settles (says 0 []) 1 (0x04 ∷ get_or words.now 0 0 ∷ 0x104 ∷ sized (get_or words.now 0 0) nbytes false ∷ 0x118 ∷ flushed ∷ 0x11C ∷ cleared ADDR ∷ []) words.now log.old result log.new }
+    ensures { Logs (says 0 []) (slave_write_accesses (word_at words.now 0) nbytes) words.now log.old result log.new }
 {
     let cr2 = word_at(words, 0);
     let entries = [
@@ -111,5 +108,5 @@ fn slave_opened(nbytes: usize, words: &[u32], log: &mut [u32]) -> Result<Report,
         Icr::WRITE,
         Icr::cleared(Isr::ADDR),
     ];
-    try_settle(Answer::Done, 1, &entries, words, log)
+    log_call(Answer::Done, 1, &entries, words, log)
 }

@@ -1,25 +1,27 @@
 // The steps of a check, one for each flag. A step whose accesses are refused changes nothing.
-ghost use Rattle.std.specs.Prelude.{[], ◌∷◌, get_or};
-ghost use Rattle.fields.specs.Field.{put};
-ghost use Rattle.answers.specs.Answers.{said};
-ghost use Rattle.ending.specs.Arms.{Arm, Settles};
+
+ghost use Rattle.std.specs.Prelude.{◌+◌, [], ◌∷◌};
+ghost use Rattle.registers.specs.Layout.{ISR, ICR, offset};
+ghost use Rattle.registers.specs.CallLog.{word_at};
+ghost use Rattle.nonblocking.specs.Steps.{LogsNumbers, FlagStep};
+ghost use Rattle.registers.specs.Field.{put};
+ghost use Rattle.registers.specs.Answers.{said};
 ghost use Rattle.nonblocking.specs.Model.{model};
 
-use crate::Link;
-use access::Report;
-use answers::{Answer, Refusal};
-use fields::Field;
-use flag_order::Flag;
-use flags::{Icr, Isr};
-use settling::{try_settle, word_at};
+use crate::link::Link;
+use registers::answers::{Answer, Refusal};
+use registers::call_log::{Report, log_call, word_at};
+use registers::field::Field;
+use registers::flag_order::Flag;
+use registers::isr::{Icr, Isr};
 
-pub(crate) mod addressed;
-pub(crate) mod frame;
-pub(crate) mod received;
-pub(crate) mod sent;
+pub(crate) mod addr;
+pub(crate) mod stopf;
+pub(crate) mod tc_tcr;
+pub(crate) mod txis_rxne;
 
 // ISR was read, and one more register is read or written.
-fn answered(
+fn one_more_access(
     answer: Answer,
     reads: usize,
     register: u32,
@@ -27,41 +29,41 @@ fn answered(
     words: &[u32],
     log: &mut [u32],
 ) -> Result<Report, Refusal>
-    ensures { Settles (said answer) reads (0x18 ∷ get_or words.now 0 0 ∷ register ∷ word ∷ []) words.now log.old result log.new }
+    ensures { LogsNumbers (said answer) reads (offset ISR ∷ word_at words.now 0 ∷ register ∷ word ∷ []) words.now log.old result log.new }
 {
     let entries = [Isr::READ, word_at(words, 0), register, word];
-    try_settle(answer, reads, &entries, words, log)
+    log_call(answer, reads, &entries, words, log)
 }
 
 // ISR was read, and this flag is cleared.
-pub(crate) fn cleared(
+pub(crate) fn flag_cleared(
     answer: Answer,
     flag: Field,
     words: &[u32],
     log: &mut [u32],
 ) -> Result<Report, Refusal>
-    ensures { Settles (said answer) 1 (0x18 ∷ get_or words.now 0 0 ∷ 0x11C ∷ put 0 flag 1 ∷ []) words.now log.old result log.new }
+    ensures { LogsNumbers (said answer) 1 (offset ISR ∷ word_at words.now 0 ∷ (offset ICR + 0x100) ∷ put 0 flag 1 ∷ []) words.now log.old result log.new }
 {
-    answered(answer, 1, Icr::WRITE, Icr::cleared(flag), words, log)
+    one_more_access(answer, 1, Icr::WRITE, Icr::cleared(flag), words, log)
 }
 
 // One register was read, and nothing follows.
-pub(crate) fn looked(
+pub(crate) fn one_read(
     answer: Answer,
     register: u32,
     words: &[u32],
     log: &mut [u32],
 ) -> Result<Report, Refusal>
-    ensures { Settles (said answer) 1 (register ∷ get_or words.now 0 0 ∷ []) words.now log.old result log.new }
+    ensures { LogsNumbers (said answer) 1 (register ∷ word_at words.now 0 ∷ []) words.now log.old result log.new }
 {
-    try_settle(answer, 1, &[register, word_at(words, 0)], words, log)
+    log_call(answer, 1, &[register, word_at(words, 0)], words, log)
 }
 
 impl Link {
     pub(crate) fn on_berr(&mut self, words: &[u32], log: &mut [u32]) -> Result<Report, Refusal>
-        ensures { Arm Flag.Berr words.now (model self.old) (model self.new) result log.old log.new }
+        ensures { FlagStep Flag.Berr words.now (model self.old) result (model self.new) log.old log.new }
     {
-        let report = cleared(Answer::BusError, Isr::BERR, words, log)?;
+        let report = flag_cleared(Answer::BusError, Isr::BERR, words, log)?;
         self.count_error();
         Ok(report)
     }

@@ -1,27 +1,28 @@
 // The watchdog: after ten calls without an end of the transfer the unit is reset.
-ghost use Rattle.std.specs.Prelude.{true, false, [], ◌∷◌, get_or};
-ghost use Rattle.fields.specs.Words.{powered};
-ghost use Rattle.answers.specs.Answers.{says};
-ghost use Rattle.ending.specs.Call.{execute_watchdog};
-ghost use Rattle.ending.specs.Arms.{Settles};
-ghost use Rattle.nonblocking.specs.Made.{Made};
 
-use crate::Link;
-use access::Report;
-use answers::{Answer, Refusal};
+ghost use Rattle.std.specs.Prelude.{[]};
+ghost use Rattle.nonblocking_meaning.specs.Plan.{reset_accesses};
+ghost use Rattle.registers.specs.CallLog.{word_at, report_of};
+ghost use Rattle.nonblocking.specs.Steps.{Logs};
+ghost use Rattle.nonblocking.specs.Meets.{Meets};
+ghost use Rattle.registers.specs.Answers.{says};
+ghost use Rattle.nonblocking_meaning.specs.Call.{execute_watchdog};
+
+use crate::link::Link;
+use registers::answers::{Answer, Refusal};
+use registers::call_log::{Report, log_call, word_at};
 use registers::cr1::Cr1;
-use settling::{try_settle, word_at};
 
 impl Link {
-    #[tactic(auto, unfolding(ending::specs::Outcome::outcome))]
+    #[tactic(auto, unfolding(nonblocking_meaning::specs::Outcome::outcome))]
     pub(crate) fn tick(&mut self, words: &[u32], log: &mut [u32]) -> Result<Report, Refusal>
-        ensures { Made execute_watchdog words.now self.old self.new result log.old log.new }
+        ensures { Meets execute_watchdog words.now self.old (report_of result) self.new log.old log.new }
     {
         self.possible()?;
         match self.watchdog {
             0 => Ok(Report::without_access(Answer::Done)),
             1 => {
-                let report = restarted(words, log)?;
+                let report = reset(words, log)?;
                 self.watchdog = 0;
                 self.count_error();
                 Ok(report)
@@ -35,8 +36,8 @@ impl Link {
 }
 
 // The unit switched off and on, with a read between that forces the wait.
-fn restarted(words: &[u32], log: &mut [u32]) -> Result<Report, Refusal>
-    ensures { Settles (says 0 []) 3 (0 ∷ get_or words.now 0 0 ∷ 0x100 ∷ powered (get_or words.now 0 0) false ∷ 0 ∷ get_or words.now 1 0 ∷ 0 ∷ get_or words.now 2 0 ∷ 0x100 ∷ powered (get_or words.now 2 0) true ∷ []) words.now log.old result log.new }
+fn reset(words: &[u32], log: &mut [u32]) -> Result<Report, Refusal>
+    ensures { Logs (says 0 []) (reset_accesses (word_at words.now 0) (word_at words.now 1) (word_at words.now 2)) words.now log.old result log.new }
 {
     let cr1 = word_at(words, 0);
     let again = word_at(words, 2);
@@ -52,5 +53,5 @@ fn restarted(words: &[u32], log: &mut [u32]) -> Result<Report, Refusal>
         Cr1::WRITE,
         Cr1::PE.switch(again, true),
     ];
-    try_settle(Answer::Done, 3, &entries, words, log)
+    log_call(Answer::Done, 3, &entries, words, log)
 }

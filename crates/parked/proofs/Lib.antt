@@ -1,2 +1,3 @@
 pub mod Counts
-pub mod Phases
+pub mod HandedOn
+pub mod PhaseLaws

@@ -1,3 +1,7 @@
 pub mod After
+pub mod BusyWait
+pub mod Kinds
+pub mod NextAccess
+pub mod Opening
+pub mod Phases
 pub mod Refusals
-pub mod Wants

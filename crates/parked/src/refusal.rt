@@ -1,16 +1,17 @@
-// What is refused before any access of a run: 11. The lengths that are refused at the begin are in `phases`.
+// What is refused before any access of a run: 11. The lengths that are refused at the begin are in `kinds`.
+
 ghost use Rattle.std.specs.Prelude.{◌≡◌};
 ghost use Rattle.parked.specs.Refusals.{ended, wrong};
 
 use crate::Parked;
-use phases::Role;
+use crate::phases::CountEffect;
 
 impl Parked {
     // Whether no access follows.
     fn ended(self) -> bool
         ensures { result ≡ ended self }
     {
-        self.phase.role() == Role::Nothing
+        self.phase.count_effect() == CountEffect::NoAccess
     }
 
     // Whether a run is a wrong call, with slices of these lengths.

@@ -1,16 +1,21 @@
-// Plays a script from standard input through both drivers, and prints the outcome of each line.
-// The gate lays its `stdin`, calls, and its `stdout`, what the original gave for them; with neither it prints nothing.
+// Plays a script: each line is a call, and what it logs, answers and leaves is printed.
+// With an argument, whatever it says, the link is lent to the calls that take it so.
 #![tactic(auto)]
 
 use crate::player::Player;
-use text::lines::Lines;
+use script::text::lines::Lines;
+use std::env::{Env, FillError};
 
+mod link;
 mod player;
+mod settings;
+mod unwaited;
 mod waiting;
 
 fn main(rt: HostRuntime) {
     let mut lines = Lines::new(rt.stdin());
-    let mut player = Player::new(&rt);
+    let lends = !matches!(rt.arg(1, &mut [0u8; 1]), Err(FillError::NotPresent));
+    let mut player = Player::new(&rt, lends);
     // No script has as many lines.
     for number in 1..u64::MAX {
         match lines.next_line() {

@@ -1,14 +1,15 @@
 // One line of a script.
+
+use crate::link::{Kept, play_lent, play_link};
+use crate::settings::config_call;
+use crate::unwaited::play_unwaited;
 use crate::waiting::Waiting;
-use access::Report;
-use nonblocking::Link;
-use playing::link::{Kept, play_link};
-use playing::settings::config_call;
-use playing::unwaited::play_unwaited;
-use print::lines::{Hex, Reported};
-use print::output::Output;
+use nonblocking::link::Link;
+use registers::call_log::Report;
 use script::calls::{Call, WaitingCall};
 use script::parse::{Line, Words, parse};
+use script::print::lines::{Hex, Reported};
+use script::print::output::Output;
 use std::fmt::Write;
 use std::io::Print;
 
@@ -23,16 +24,19 @@ pub(crate) struct Player<P> {
     words: Words,
     log: [u32; PLACES],
     link: Link,
+    // Whether the link's calls go through those that take a lent link.
+    lends: bool,
     waiting: Waiting,
 }
 
 impl<P: Print> Player<P> {
-    pub(crate) fn new(rt: P) -> Player<P> {
+    pub(crate) fn new(rt: P, lends: bool) -> Player<P> {
         Player {
             output: Output::new(rt),
             words: Words::new(),
             log: [0; PLACES],
             link: Link::new(),
+            lends,
             waiting: Waiting::new(),
         }
     }
@@ -55,6 +59,7 @@ impl<P: Print> Player<P> {
         let log = self.log.as_mut_slice();
         let log = &mut log[..places];
         let report = match line.call {
+            Call::Link(call) if self.lends => play_lent(&mut self.link, call, words, log),
             Call::Link(call) => {
                 let called = play_link(self.link, call, words, log);
                 self.link = called.link;

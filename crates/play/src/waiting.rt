@@ -1,13 +1,14 @@
 // The blocking calls that wait.
-use access::Report;
-use answers::Refusal;
+
 use arrayvec::ArrayVec;
 use blocking::master::{read, write, write_read};
 use blocking::run::resume;
 use blocking::slave::{slave_read, slave_wait_addressed, slave_write};
 use parked::Parked;
+use registers::answers::Refusal;
+use registers::call_log::Report;
 use script::calls::WaitingCall;
-use text::bytes::{Bytes, MOST};
+use script::text::bytes::{Bytes, MOST};
 
 // The call begun last, if one was, as its last run left it, and the two slices that it is lent.
 #[derive(Drop)]

@@ -1,8 +1,9 @@
 // CR1: the unit on or off, its filters and its interrupts. PE, SBC, ADDRIE and RXIE alone are switched by their fields.
-ghost use Rattle.std.specs.Prelude.{◌≡◌};
-ghost use Rattle.fields.specs.Words.{configured, interrupts};
 
-use fields::Field;
+ghost use Rattle.std.specs.Prelude.{◌≡◌};
+ghost use Rattle.registers.specs.Words.{configured, interrupts};
+
+use crate::field::Field;
 
 #[derive(Clone, Copy, Debug, PartialEq, Eq)]
 pub struct Cr1;
@@ -44,7 +45,7 @@ impl Cr1 {
     };
 
     // The unit switched on with its filters: construction.
-    #[tactic(auto, unfolding(fields::specs::Words::configured))]
+    #[tactic(auto, unfolding(crate::specs::Words::configured))]
     pub fn configured(cr1: u32, digital_filter: u8, analog_filter: bool) -> u32
         ensures { result ≡ configured cr1 digital_filter analog_filter }
     {
@@ -54,7 +55,7 @@ impl Cr1 {
     }
 
     // All interrupts of the non-blocking driver: `listen` and `unlisten`. One line for each: a fold over a list of the seven says no more.
-    #[tactic(auto, unfolding(fields::specs::Words::interrupts))]
+    #[tactic(auto, unfolding(crate::specs::Words::interrupts))]
     pub fn interrupts(cr1: u32, on: bool) -> u32
         ensures { result ≡ interrupts cr1 on }
     {

@@ -1,9 +1,16 @@
-// The registers of the STM32G0's I2C unit but ISR and ICR, which are in `flags`: their fields, and the words that a driver forms.
-// Nothing here touches a device: a driver above takes the words that were read from a lent list, and logs each access.
+// All that stands under both drivers: register words, configuration and timing, answers, the log of accesses, construction.
 #![tactic(auto)]
 
+pub mod answers;
+pub mod call_log;
+pub mod config;
+pub mod construct;
 pub mod cr1;
-pub mod data;
+pub mod cr2;
+pub mod data_registers;
+pub mod field;
+pub mod flag_order;
+pub mod isr;
 pub mod oar;
 pub mod offsets;
-pub mod timingr;
+pub mod timing;

@@ -1,10 +1,11 @@
 // OAR1 and OAR2: the own addresses.
-ghost use Rattle.std.specs.Prelude.{◌≡◌};
-ghost use Rattle.fields.specs.Words.{own_seven, own_ten, own_second};
-ghost use Rattle.config.specs.Config.{mask_number};
 
-use config::SlaveAddressMask;
-use fields::Field;
+ghost use Rattle.std.specs.Prelude.{◌≡◌};
+ghost use Rattle.registers.specs.Words.{own_seven, own_ten, own_second};
+ghost use Rattle.registers.specs.Config.{mask_number};
+
+use crate::config::SlaveAddressMask;
+use crate::field::Field;
 
 #[derive(Clone, Copy, Debug, PartialEq, Eq)]
 pub struct Oar1;
@@ -33,7 +34,7 @@ impl Oar1 {
     };
 
     // The low seven bits of an address.
-    #[tactic(auto, unfolding(fields::specs::Words::own_seven))]
+    #[tactic(auto, unfolding(crate::specs::Words::own_seven))]
     pub fn own_seven(address: u16, mode: bool, enabled: bool) -> u32
         ensures { result ≡ own_seven address mode enabled }
     {
@@ -43,7 +44,7 @@ impl Oar1 {
     }
 
     // The low ten bits of an address, as the non-blocking driver writes them.
-    #[tactic(auto, unfolding(fields::specs::Words::own_ten))]
+    #[tactic(auto, unfolding(crate::specs::Words::own_ten))]
     pub fn own_ten(address: u16) -> u32
         ensures { result ≡ own_ten address }
     {
@@ -72,7 +73,7 @@ impl Oar2 {
     };
 
     // The second address, with as many of its low bits masked as the mask says.
-    #[tactic(auto, unfolding(fields::specs::Words::own_second))]
+    #[tactic(auto, unfolding(crate::specs::Words::own_second))]
     pub fn own_second(address: u8, mask: SlaveAddressMask) -> u32
         ensures { result ≡ own_second address (mask_number mask) }
     {

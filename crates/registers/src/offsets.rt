@@ -1,13 +1,14 @@
 // The registers side by side.
+
 ghost use Rattle.std.specs.Prelude.{◌≡◌};
-ghost use Rattle.fields.specs.Layout.{offsets};
+ghost use Rattle.registers.specs.Layout.{offsets};
 
 use crate::cr1::Cr1;
-use crate::data::{Rxdr, Txdr};
+use crate::cr2::Cr2;
+use crate::data_registers::{Rxdr, Txdr};
+use crate::isr::{Icr, Isr};
 use crate::oar::{Oar1, Oar2};
-use crate::timingr::Timingr;
-use cr2::Cr2;
-use flags::{Icr, Isr};
+use crate::timing::Timingr;
 
 // The registers' byte offsets: what a host adds to the unit's base address.
 pub fn offsets() -> [u32; 9]

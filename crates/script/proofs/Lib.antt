@@ -1,2 +1,10 @@
+pub mod Accesses
 pub mod Chains
+pub mod Filling
+pub mod Padded
+pub mod Pairs
+pub mod PairsOf
+pub mod SoFar
+pub mod Tokens
+pub mod Unread
 pub mod Words

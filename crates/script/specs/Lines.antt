@@ -3,7 +3,7 @@ use Rattle.std.specs.Prelude.{◌≡◌, ◌≤◌, ◌<◌, ◌-◌, ◌^◌, �
 use Rattle.std.specs.List.{slice_split, before_first, after_first, starts_with}
 use Rattle.std.specs.Option.{option_and_then}
 use Rattle.std.specs.Str.Parse.{digits_value}
-use Rattle.text.specs.Numbers.{IsNumber}
+use Rattle.script.specs.Numbers.{IsNumber}
 
 -- tokens are separated by one or more spaces
 abbrev pub tokens_of : List ℕ → List (List ℕ)

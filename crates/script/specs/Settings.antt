@@ -1,9 +1,9 @@
 -- The configuration that a line's settings are.
 use Rattle.std.specs.Prelude.{ℕ, Bool, true, false, Option, None, Some, Result, Ok, unwrap_or, option_map}
-use Rattle.answers.specs.declared.Refusal.{Refusal}
-use Rattle.config.specs.declared.Config.{Config}
-use Rattle.config.specs.declared.SlaveAddressMask.TheVariants.{MaskNone}
-use Rattle.config.specs.Config.{with_filters, filtered}
+use Rattle.registers.specs.declared.answers.Refusal.{Refusal}
+use Rattle.registers.specs.declared.config.Config.{Config}
+use Rattle.registers.specs.declared.config.SlaveAddressMask.TheVariants.{MaskNone}
+use Rattle.registers.specs.Config.{with_filters, filtered}
 use Rattle.script.specs.declared.settings.OwnAddress.{OwnAddress}
 use Rattle.script.specs.declared.settings.OwnAddress.TheVariants.{Seven, Ten}
 use Rattle.script.specs.declared.settings.Filter.{Filter}

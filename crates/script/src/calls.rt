@@ -1,7 +1,8 @@
 // The calls of a script, each with what its line gives.
+
 use crate::settings::Settings;
-use flags::Event;
-use text::bytes::Bytes;
+use crate::text::bytes::Bytes;
+use registers::isr::Event;
 
 #[derive(Clone, Copy, Debug, PartialEq, Eq)]
 pub enum Call<'a> {

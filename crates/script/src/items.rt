@@ -1,9 +1,10 @@
 // The tokens of a call, from the driver's name to its last option.
+
 use crate::calls::{Call, ConfigCall, Construction, LinkCall, UnwaitedCall, WaitingCall};
 use crate::options::{link_values, settings, slices};
-use flags::Event;
-use text::bytes::{Bytes, MOST};
-use text::numbers::{decimal, hex};
+use crate::text::bytes::{Bytes, MOST};
+use crate::text::numbers::{decimal, hex};
+use registers::isr::Event;
 
 pub(crate) fn call<'a>(items: &[&'a str]) -> Option<Call<'a>> {
     Some(match items {

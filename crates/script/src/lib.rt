@@ -5,4 +5,6 @@ pub mod calls;
 mod items;
 mod options;
 pub mod parse;
+pub mod print;
 pub mod settings;
+pub mod text;

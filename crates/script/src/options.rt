@@ -1,9 +1,10 @@
 // The options of a call, in any order. None comes twice.
+
 use crate::calls::{LinkValues, Slices};
 use crate::settings::{Filter, OwnAddress, Settings};
-use config::SlaveAddressMask;
-use text::bytes::{Bytes, MOST};
-use text::numbers::{decimal, hex};
+use crate::text::bytes::{Bytes, MOST};
+use crate::text::numbers::{decimal, hex};
+use registers::config::SlaveAddressMask;
 
 // Keeps a value where there is none yet.
 fn put<T: Drop>(kept: &mut Option<T>, value: Option<T>) -> Option<()> {

@@ -1,11 +1,12 @@
 // From a line to its call.
+
 ghost use Rattle.std.specs.Prelude.{◌≡◌, IsUtf8, ◌<◌, OnSome, IfSome, MatchOption, length, map};
 ghost use Rattle.script.specs.Lines.{word_tokens, AreWords, values_of, call_tokens, log_of, ArePlaces};
 
 use crate::calls::Call;
 use crate::items::call;
+use crate::text::numbers::{decimal, hex};
 use arrayvec::ArrayVec;
-use text::numbers::{decimal, hex};
 
 // The words that a line gives.
 pub type Words = ArrayVec<u32, 4096>;
@@ -41,7 +42,8 @@ fn call_items(line: &str) -> Option<ArrayVec<&str, 16>>
 
 // The words are the tokens after it.
 fn put_words(line: &str, words: &mut Words) -> Option<()>
-    ensures { MatchOption result (¬ AreWords (word_tokens line.now)) (λ _. AreWords (word_tokens line.now) × (words.new.items ≡ values_of (word_tokens line.now))) }
+    ensures { MatchOption result (¬ AreWords (word_tokens line.now)) (λ _. AreWords (word_tokens line.now) ×
+        (words.new.items ≡ values_of (word_tokens line.now))) }
 {
     let tokens = line.split(' ').filter(|token| !token.is_empty());
     words.clear();

@@ -1,9 +1,10 @@
 // The configuration that a line gives.
+
 ghost use Rattle.std.specs.Prelude.{◌≡◌};
 ghost use Rattle.script.specs.Settings.{configuration_of};
 
-use answers::Refusal;
-use config::{Config, SlaveAddressMask};
+use registers::answers::Refusal;
+use registers::config::{Config, SlaveAddressMask};
 
 // The first own address, in seven-bit mode also one of more bits.
 #[derive(Clone, Copy, Debug, PartialEq, Eq)]

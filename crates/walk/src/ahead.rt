@@ -1,8 +1,9 @@
 // The words that are read ahead.
+
 use arrayvec::ArrayVec;
+use script::text::lines::Lines;
+use script::text::numbers::hex;
 use std::io::Read;
-use text::lines::Lines;
-use text::numbers::hex;
 
 // What comes after the words that were read.
 #[derive(Clone, Copy, Debug, PartialEq, Eq)]

@@ -3,10 +3,10 @@
 #![tactic(auto)]
 
 use crate::run::run;
-use print::output::Output;
+use script::print::output::Output;
+use script::text::lines::Lines;
 use std::env::{Env, FillError};
 use std::fmt::Write;
-use text::lines::Lines;
 
 mod ahead;
 mod run;

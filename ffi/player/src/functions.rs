@@ -12,6 +12,7 @@ pub struct Link {
     pub index: usize,
     pub length: usize,
     pub errors: u32,
+    pub marks: u32,
     pub length_write_read: usize,
     pub data: [u8; 255],
 }

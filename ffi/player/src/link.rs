@@ -14,6 +14,7 @@ impl Link {
             index: 0,
             length: 0,
             errors: 0,
+            marks: 0,
             length_write_read: 0,
             data: [0; 255],
         }

@@ -65,16 +65,14 @@ fn compare(mut script: &[u8], outcomes: &[u8]) -> io::Result<bool> {
         played.push(b'\n');
     }
     let theirs = without(outcomes, &left_out);
-    let (compared, differences) = differences(&played[..], &ours[..], &theirs[..], &mut stdout())?;
+    let compared = differences(&played[..], &ours[..], &theirs[..], &mut stdout())?;
+    println!("{compared}");
     println!(
-        "{compared} outcomes compared, {} left out: the library has no function for them",
+        "{} calls through the C boundary, {} left out: the library has no function for them",
+        player.calls,
         left_out.len()
     );
-    println!(
-        "{} calls through the C boundary, {differences} differences",
-        player.calls
-    );
-    Ok(differences == 0)
+    Ok(compared.differences == 0)
 }
 
 /// Outcomes but for those of some lines.

@@ -1,12 +1,50 @@
-//! Compares the outcomes of two players, call by call.
+//! Compares the outcomes of two players, line by line.
 
+use crate::parse::{sort, Sort};
 use crate::reader::{is_skipped, next_line};
+use std::fmt;
 use std::io::{self, BufRead, Write};
 
-/// How many differing calls are shown.
+/// How many differing lines are shown.
 const SHOWN: u64 = 5;
 
-/// The outcomes of one player, one call at a time.
+/// What was compared: every line with an outcome is one of the first three.
+#[derive(Clone, Copy, PartialEq, Eq, Debug, Default)]
+pub struct Compared {
+    pub calls: u64,
+    pub set_up: u64,
+    pub bad: u64,
+    /// Lines whose outcomes differ, and what goes on after the last line.
+    pub differences: u64,
+}
+
+impl Compared {
+    /// Counts a line.
+    fn add(&mut self, line: &[u8]) {
+        match sort(line) {
+            Sort::Call => self.calls += 1,
+            Sort::SetUp => self.set_up += 1,
+            Sort::Bad => self.bad += 1,
+        }
+    }
+}
+
+impl fmt::Display for Compared {
+    fn fmt(&self, f: &mut fmt::Formatter) -> fmt::Result {
+        let Compared {
+            calls,
+            set_up,
+            bad,
+            differences,
+        } = self;
+        write!(
+            f,
+            "{calls} calls, {differences} differences; {set_up} set-up lines and {bad} bad lines beside the calls"
+        )
+    }
+}
+
+/// The outcomes of one player, one line of the script at a time.
 struct Outcomes<R> {
     input: R,
     line: Vec<u8>,
@@ -47,7 +85,7 @@ impl<R: BufRead> Outcomes<R> {
     }
 }
 
-/// Writes what it finds; true where both have the same outcome for each call of
+/// Writes what it finds; true where both have the same outcome for each line of
 /// the script, and nothing else.
 pub fn compare(
     script: impl BufRead,
@@ -55,34 +93,34 @@ pub fn compare(
     theirs: impl BufRead,
     out: &mut impl Write,
 ) -> io::Result<bool> {
-    let (calls, differences) = differences(script, ours, theirs, out)?;
-    writeln!(out, "{calls} calls, {differences} differences")?;
-    Ok(differences == 0)
+    let compared = differences(script, ours, theirs, out)?;
+    writeln!(out, "{compared}")?;
+    Ok(compared.differences == 0)
 }
 
-/// Writes the first differences; the calls and the differences, counted.
+/// Writes the first differences, and counts.
 pub fn differences(
     mut script: impl BufRead,
     ours: impl BufRead,
     theirs: impl BufRead,
     out: &mut impl Write,
-) -> io::Result<(u64, u64)> {
+) -> io::Result<Compared> {
     let (mut ours, mut theirs) = (Outcomes::new(ours)?, Outcomes::new(theirs)?);
     let (mut line, mut our, mut their) = (Vec::new(), Vec::new(), Vec::new());
-    let (mut number, mut calls, mut differences) = (0, 0, 0);
+    let (mut number, mut compared) = (0, Compared::default());
     while next_line(&mut script, &mut line)? {
         number += 1;
         if is_skipped(&line) {
             continue;
         }
-        calls += 1;
+        compared.add(&line);
         ours.take(number, &mut our)?;
         theirs.take(number, &mut their)?;
         if our == their && !our.is_empty() {
             continue;
         }
-        differences += 1;
-        if differences <= SHOWN {
+        compared.differences += 1;
+        if compared.differences <= SHOWN {
             writeln!(out, "line {number}: {}", String::from_utf8_lossy(&line))?;
             show(out, "ours", &our)?;
             show(out, "theirs", &their)?;
@@ -93,7 +131,7 @@ pub fn differences(
         ("theirs", theirs.more.then_some(&theirs.line)),
     ] {
         if let Some(line) = rest {
-            differences += 1;
+            compared.differences += 1;
             writeln!(
                 out,
                 "{name} goes on at: {}",
@@ -101,7 +139,7 @@ pub fn differences(
             )?;
         }
     }
-    Ok((calls, differences))
+    Ok(compared)
 }
 
 fn show(out: &mut impl Write, name: &str, outcome: &[u8]) -> io::Result<()> {

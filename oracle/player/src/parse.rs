@@ -25,6 +25,25 @@ pub const MOST_CHARACTERS: usize = 32_768;
 /// The most words of a line.
 const MOST_WORDS: usize = 4_096;
 
+/// What a line with an outcome is.
+#[derive(Clone, Copy, PartialEq, Eq, Debug)]
+pub enum Sort {
+    /// A call of a driver or of its configuration.
+    Call,
+    /// `nb reset` and `nb set`: they put the link where a call is to find it.
+    SetUp,
+    Bad,
+}
+
+/// What a line is that is no comment and not empty.
+pub fn sort(line: &[u8]) -> Sort {
+    match parse(line, &mut Vec::new()) {
+        Some((Call::LinkReset | Call::LinkSet(_), _)) => Sort::SetUp,
+        Some(_) => Sort::Call,
+        None => Sort::Bad,
+    }
+}
+
 /// Reads a line; its words go into `words`, the log's places come with the call.
 pub fn parse(line: &[u8], words: &mut Vec<u32>) -> Option<(Call, usize)> {
     words.clear();

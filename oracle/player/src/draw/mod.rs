@@ -6,6 +6,7 @@ mod links;
 mod material;
 mod waits;
 
+use crate::parse::{sort, Sort};
 use crate::player::{Player, Ruling};
 use crate::random::Random;
 use std::io::{self, Write};
@@ -17,12 +18,14 @@ struct Drawer {
     player: Player,
     script: Vec<u8>,
     outcome: Vec<u8>,
+    /// How many calls are still to be drawn.
     left: u64,
     /// No disturbance in this scene, so that long transfers come to their end.
     calm: bool,
 }
 
-/// Writes a script of `calls` calls; bad lines count as calls.
+/// Writes a script of `calls` calls; `nb set`, `nb reset` and bad lines stand
+/// beside them and are not counted.
 pub fn draw(seed: u64, calls: u64, output: &mut impl Write) -> io::Result<()> {
     let mut drawer = Drawer::new(seed, calls);
     writeln!(output, "# drawn with seed {seed}, {calls} calls")?;
@@ -69,12 +72,14 @@ impl Drawer {
         }
     }
 
-    /// Adds a call, unless all are drawn.
+    /// Adds a line, unless all calls are drawn.
     fn line(&mut self, text: &str) {
         if self.left == 0 {
             return;
         }
-        self.left -= 1;
+        if sort(text.as_bytes()) == Sort::Call {
+            self.left -= 1;
+        }
         self.script.extend_from_slice(text.as_bytes());
         self.script.push(b'\n');
         self.outcome.clear();

@@ -3,6 +3,7 @@
 use crate::common::played;
 use oracle::draw::draw;
 use oracle::exhaust::exhaust;
+use oracle::parse::{sort, Sort};
 use oracle::player::{Player, Ruling};
 
 fn drawn(seed: u64, calls: u64) -> String {
@@ -11,16 +12,20 @@ fn drawn(seed: u64, calls: u64) -> String {
     String::from_utf8(script).unwrap()
 }
 
-fn calls_of(script: &str) -> usize {
-    let is_call = |line: &&str| !line.is_empty() && !line.starts_with('#');
-    script.lines().filter(is_call).count()
+/// How many lines with an outcome are of this sort.
+fn lines_of(script: &str, wanted: Sort) -> usize {
+    let counts =
+        |line: &&str| !line.is_empty() && !line.starts_with('#') && sort(line.as_bytes()) == wanted;
+    script.lines().filter(counts).count()
 }
 
 #[test]
 fn the_same_seed_draws_the_same_script() {
     assert_eq!(drawn(7, 5_000), drawn(7, 5_000));
     assert_ne!(drawn(7, 5_000), drawn(8, 5_000));
-    assert_eq!(calls_of(&drawn(7, 5_000)), 5_000);
+    assert_eq!(lines_of(&drawn(7, 5_000), Sort::Call), 5_000);
+    assert!(lines_of(&drawn(7, 5_000), Sort::SetUp) > 0);
+    assert!(lines_of(&drawn(7, 5_000), Sort::Bad) > 0);
 }
 
 #[test]
@@ -28,7 +33,9 @@ fn every_set_of_flags_is_in_the_domain() {
     let mut script = Vec::new();
     exhaust(&mut script).unwrap();
     let script = String::from_utf8(script).unwrap();
-    assert_eq!(calls_of(&script), 86_030);
+    assert_eq!(lines_of(&script, Sort::Call), 57_344);
+    assert_eq!(lines_of(&script, Sort::SetUp), 28_686);
+    assert_eq!(lines_of(&script, Sort::Bad), 0);
     assert!(played(Ruling::Rust, &script) == played(Ruling::Document, &script));
 }
 

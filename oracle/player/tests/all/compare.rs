@@ -1,8 +1,9 @@
 //! The comparing of outcomes.
 
-use oracle::compare::compare;
+use oracle::compare::{compare, differences, Compared};
 
 const SCRIPT: &str = "# two calls\nnb check | 2\n\nnb check | 4\n";
+const NONE_BESIDE: &str = "0 set-up lines and 0 bad lines beside the calls\n";
 const OUTCOMES: &str = "> 2\n= 1\n> 4\n= 9\n";
 
 fn compared(ours: &str, theirs: &str) -> (bool, String) {
@@ -20,7 +21,40 @@ fn compared(ours: &str, theirs: &str) -> (bool, String) {
 #[test]
 fn equal_outcomes() {
     let found = compared(OUTCOMES, OUTCOMES);
-    assert_eq!(found, (true, "2 calls, 0 differences\n".to_string()));
+    let text = format!("2 calls, 0 differences; {NONE_BESIDE}");
+    assert_eq!(found, (true, text));
+}
+
+#[test]
+fn calls_alone_count_as_calls() {
+    let script =
+        "nb reset\nnb set len=2\nnb check | 2\ncfg period 0\nbl resume\nnb set wd=x\nnonsense\n";
+    let outcomes: String = (1..=7).map(|n| format!("> {n}\n= 0\n")).collect();
+    let mut out = Vec::new();
+    let compared = differences(
+        script.as_bytes(),
+        outcomes.as_bytes(),
+        outcomes.as_bytes(),
+        &mut out,
+    )
+    .unwrap();
+    let expected = Compared {
+        calls: 3,
+        set_up: 2,
+        bad: 2,
+        differences: 0,
+    };
+    assert_eq!(compared, expected);
+    // A set-up line that differs is a difference too.
+    let other = outcomes.replacen("= 0", "= 1", 1);
+    let compared = differences(
+        script.as_bytes(),
+        outcomes.as_bytes(),
+        other.as_bytes(),
+        &mut out,
+    )
+    .unwrap();
+    assert_eq!(compared.differences, 1);
 }
 
 #[test]
@@ -28,7 +62,10 @@ fn a_differing_call_is_shown() {
     let (same, text) = compared(OUTCOMES, "> 2\n= 1\n> 4\n= 10\n");
     assert!(!same);
     let shown = "line 4: nb check | 4\n  ours:\n    = 9\n  theirs:\n    = 10\n";
-    assert_eq!(text, format!("{shown}2 calls, 1 differences\n"));
+    assert_eq!(
+        text,
+        format!("{shown}2 calls, 1 differences; {NONE_BESIDE}")
+    );
 }
 
 #[test]

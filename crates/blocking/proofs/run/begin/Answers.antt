@@ -3,8 +3,8 @@ use mathlib.Core.Path.{refl, sym, ◌∙◌}
 use lib.ListN.{length}
 use Prim.Native.Nat.{◌/◌}
 use Rattle.blocking.proofs.Wholes.{call_good, call_bad}
-use Rattle.runs.proofs.OneAccess.{outcome_right}
-use Rattle.runs.proofs.Sound.{right_begun}
+use Rattle.blocking_meaning.proofs.HandedOn.{outcome_right}
+use Rattle.blocking_meaning.proofs.HandedOn.{right_begun}
 use Rattle.parked.specs.Refusals.{begun}
 use Rattle.blocking.proofs.run.begin.Goals as goal
 
@@ -17,8 +17,8 @@ returns c = let good = sym c.lengths.ensures ∙ c.if-not-lengths.false in
       outcome_right c.args.send.now (begun c.args.kind c.args.address n m) c.args.receive.now c.args.words.now (length c.args.log.now / 2) (right_begun c.args.kind c.args.address n m good),
       ← c.opening.ensures,
     )
-    c.course.ensures
+    c.run_call.ensures
 
 pub returns-then-not-lengths : goal.returns-then-not-lengths
-returns-then-not-lengths c = rw (call_bad c.args.kind c.args.address c.args.send.now c.args.receive.now c.args.words.now (length c.args.log.now / 2) (sym c.lengths.ensures ∙ c.if-not-lengths.true), c.refused.ensures)
+returns-then-not-lengths c = rw (call_bad c.args.kind c.args.address c.args.send.now c.args.receive.now c.args.words.now (length c.args.log.now / 2) (sym c.lengths.ensures ∙ c.if-not-lengths.true), c.ends_at_once.ensures)
     (record { answer = refl; parked = refl; taken = refl; logged = refl; entries = refl; buffer = refl })

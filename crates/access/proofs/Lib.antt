@@ -1,4 +1,0 @@
-pub mod Lists
-pub mod Over
-pub mod Promises
-pub mod Stored

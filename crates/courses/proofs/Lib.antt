@@ -1,3 +1,0 @@
-pub mod Blocks
-pub mod Ends
-pub mod Parts

@@ -1,9 +1,0 @@
--- `courses::Waiting::sent` meets its contract.
-use mathlib.Core.Path.{sym, ◌∙◌}
-use Rattle.courses.proofs.Waiting.sent.Goals as goal
-
-pub returns : goal.returns
-returns c = record {
-  call = c.send_bytes.ensures.call;
-  carried = λ b. c.send_bytes.ensures.carried b c.requires.within.0 c.requires.within.1 c.args.self.waits (sym c.incoming.ensures ∙ c.if-incoming.false) c.requires.send;
-}

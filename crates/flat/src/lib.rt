@@ -1,5 +1,0 @@
-// Answers and configurations as numbers.
-#![tactic(auto)]
-
-pub mod configured;
-pub mod out;

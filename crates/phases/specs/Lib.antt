@@ -1,4 +1,0 @@
-pub mod Kinds
-pub mod Lengths
-pub mod Numbers
-pub mod Phases

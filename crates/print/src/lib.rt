@@ -1,5 +1,0 @@
-// What the programs print: the lines of a call, and the buffer that they go to.
-#![tactic(auto)]
-
-pub mod lines;
-pub mod output;

@@ -1,0 +1,10 @@
+pub mod Answers
+pub mod CallLog
+pub mod Config
+pub mod Construct
+pub mod Field
+pub mod FlagOrder
+pub mod Isr
+pub mod Layout
+pub mod Timing
+pub mod Words

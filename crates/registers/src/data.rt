@@ -1,2 +1,0 @@
-// RXDR and TXDR.
-pub use data_registers::{Rxdr, Txdr};

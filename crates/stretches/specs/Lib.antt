@@ -1,2 +1,0 @@
-pub mod Polls
-pub mod Stretches

@@ -1,4 +1,0 @@
-pub mod Bytes
-pub mod Lines
-pub mod Numbers
-pub mod Unread

@@ -1,7 +1,0 @@
-// The text that the programs read: the lines of standard input, and the numbers and BYTES that their tokens are.
-#![tactic(auto)]
-
-pub mod bytes;
-mod input;
-pub mod lines;
-pub mod numbers;
