@@ -43,6 +43,37 @@ pub record Book : Type 0 where
   -- a `get_errors_reset` was answered since the start
   pub errors_read : Bool
 
+-- 'kept out': a word taken as TXIS or TC while receiving, or as TC after a `master_read` and before the next accepted write of a master
+abbrev pub clean_flag : Flag → Book → Bool
+clean_flag Berr b = true
+clean_flag Arlo b = true
+clean_flag Nackf b = true
+clean_flag Txis b = not (is_open b.receiving)
+clean_flag Rxne b = true
+clean_flag Stopf b = true
+clean_flag Tc b = not (is_open b.receiving) && not b.after_read
+clean_flag Tcr b = true
+clean_flag Addr b = true
+clean_flag Nothing b = true
+
+-- a refused check has no access, and so no word that it takes
+abbrev pub clean_check : List Access → Book → Bool
+clean_check [] b = true
+clean_check (read r isr ∷ rest) b = clean_flag (taken_as isr) b
+clean_check (write r v ∷ rest) b = true
+
+abbrev pub clean_role : Role → List Access → Book → Bool
+clean_role (master_writes bytes) accesses b = true
+clean_role (slave_writes bytes) accesses b = true
+clean_role master_reads accesses b = true
+clean_role checks accesses b = clean_check accesses b
+clean_role reads_errors accesses b = true
+clean_role shows_master accesses b = true
+clean_role other accesses b = true
+
+abbrev pub clean : Observed → Book → Bool
+clean e b = clean_role (role_of e.call) e.accesses b
+
 abbrev pub empty : ℕ → Option ℕ
 empty j = none
 
@@ -144,34 +175,3 @@ by_role other done accesses b = b
 
 abbrev pub feed : Observed → Book → Book
 feed e b = cond (is_refused e.answer) b (by_role (role_of e.call) (is_done e.answer) e.accesses b)
-
--- 'kept out': a word taken as TXIS or TC while receiving, or as TC after a `master_read` and before the next accepted write of a master
-abbrev pub clean_flag : Flag → Book → Bool
-clean_flag Berr b = true
-clean_flag Arlo b = true
-clean_flag Nackf b = true
-clean_flag Txis b = not (is_open b.receiving)
-clean_flag Rxne b = true
-clean_flag Stopf b = true
-clean_flag Tc b = not (is_open b.receiving) && not b.after_read
-clean_flag Tcr b = true
-clean_flag Addr b = true
-clean_flag Nothing b = true
-
--- a refused check has no access, and so no word that it takes
-abbrev pub clean_check : List Access → Book → Bool
-clean_check [] b = true
-clean_check (read r isr ∷ rest) b = clean_flag (taken_as isr) b
-clean_check (write r v ∷ rest) b = true
-
-abbrev pub clean_role : Role → List Access → Book → Bool
-clean_role (master_writes bytes) accesses b = true
-clean_role (slave_writes bytes) accesses b = true
-clean_role master_reads accesses b = true
-clean_role checks accesses b = clean_check accesses b
-clean_role reads_errors accesses b = true
-clean_role shows_master accesses b = true
-clean_role other accesses b = true
-
-abbrev pub clean : Observed → Book → Bool
-clean e b = clean_role (role_of e.call) e.accesses b

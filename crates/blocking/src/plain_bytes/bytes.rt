@@ -3,8 +3,8 @@
 // steps it; and it takes them by their places, since by a pattern of the words that are left a byte takes 5 to 10 instructions more.
 // Out and in are two loops: a trait for what is lent, how many words a byte takes and where it goes would be longer than the second loop.
 
-ghost use Rattle.std.specs.Prelude.{◌≡◌, ◌+◌, get_or};
-ghost use Rattle.registers.specs.Words.{received, sent};
+ghost use Rattle.std.specs.Prelude.{◌≡◌, ◌≤◌, get_or, length};
+ghost use Rattle.registers.specs.Words.{sent};
 ghost use Rattle.blocking.specs.PlainBytes.{Sends, Receives};
 
 use crate::plain_bytes::polls::polled;
@@ -20,28 +20,13 @@ fn byte_out(send: &[u8], place: usize) -> u32
     Txdr::sent(byte_at(send, place))
 }
 
-// The byte in the word of RXDR, which follows the word of ISR at a place; 0 where it is missing. The place is compared first: by a pattern of
-// `words.get(place..)` a read of 255 bytes takes 7 instructions more for each.
-fn byte_in(words: &[u32], place: usize) -> u8
-    ensures { result ≡ received (get_or words.now (place + 1) 0) }
-{
-    let rxdr = if place < words.len() {
-        words.get(place + 1).copied().unwrap_or(0)
-    } else {
-        0
-    };
-    Rxdr::received(rxdr)
-}
-
 // Bytes go out while one is left.
 pub(crate) fn send_bytes(from: Progress, send: &[u8], words: &[u32], log: &mut [u32]) -> Progress
+    requires { from.taken ≤ length words.now }
     ensures { Sends send.now words.now log.old from log.new result }
 {
-    let Some(left) = words.get(from.taken..) else {
-        return from;
-    };
     let mut p = from;
-    for &isr in left {
+    for &isr in &words[from.taken..] {
         if send.len() <= p.parked.count {
             break;
         }
@@ -68,20 +53,16 @@ pub(crate) fn receive_bytes(
     words: &[u32],
     log: &mut [u32],
 ) -> Progress
+    requires { from.taken ≤ length words.now }
     ensures { Receives words.now log.old receive.old from log.new receive.new result }
 {
-    // The place after `taken` has to be one.
-    if words.len() < from.taken {
-        return from;
-    }
     let mut p = from;
     while p.parked.count < receive.len() && p.taken + 1 < words.len() {
         let isr = words[p.taken];
         let rxdr = words[p.taken + 1];
         match polled(isr, Wanted::Rxne, Rxdr::READ, rxdr, p.logged, log) {
             Some(Seen::Byte) => {
-                // The byte in `rxdr`, by the function whose contract says which word it comes from.
-                receive[p.parked.count] = byte_in(words, p.taken);
+                receive[p.parked.count] = Rxdr::received(rxdr);
                 p.parked.count += 1;
                 p.taken += 2;
                 p.logged += 4;

@@ -13,7 +13,7 @@ loop-p-preserved-in-Some-Byte c = let q = rw (c.in-Some-Byte.is, c.in-Some-Byte.
     let p = c.loop-p.p in
     let both : p.taken + 2 ≤ length c.args.words.now = omega (arith, c.if-p-words.true) in (
       receives_on c.loop-p.invariant.0 (omega arith) (omega (arith, q.1)) c.polled.auto.log (length-set c.loop-p.receive p.parked.count _) refl
-          (λ s w i l. rw (q.2, c.byte_in.ensures) (receive_one s c.args.words.now c.loop-p.log c.loop-p.receive p.parked p.taken p.logged w i l c.loop-p-test.true both q.1 q.0)),
+          (λ s w i l. rw (q.2, c.received.ensures) (receive_one s c.args.words.now c.loop-p.log c.loop-p.receive p.parked p.taken p.logged w i l c.loop-p-test.true both q.1 q.0)),
       both,
     )
 
