@@ -45,8 +45,8 @@ struct i2c_link {
  * yes; a mask of 7 and above leaves no bit compared; an address of 0 is none. The clock is in hertz. */
 #define I2C_CONFIG const uint32_t config[10]
 
-/* What the link held before does not matter here, and stays where this is refused; every other call wants a link that was
- * constructed, or answers 12 where it is impossible. */
+/* What the link held before does not matter here, and stays where this is refused. Every other call wants a link that was
+ * constructed: no call leaves an impossible one (`never_impossible`), and one that is impossible all the same is answered 12. */
 void i2c_construct(struct i2c_link *link, I2C_CONFIG, uint32_t clock, I2C_WORDS, I2C_LOG, uint64_t out[6]);
 
 void i2c_check_isr_flags(struct i2c_link *link, I2C_WORDS, I2C_LOG, uint64_t out[6]);
