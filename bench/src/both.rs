@@ -1,5 +1,6 @@
 //! Both sides of a row: laid out, run and compared.
 
+use crate::called::{self, Which};
 use crate::original::{Numbers, Original};
 use crate::ours::Ours;
 use crate::script::{Row, What};
@@ -33,6 +34,12 @@ impl Both {
             original_log: vec![0; PLACES],
             our_log: vec![0; PLACES],
         }
+    }
+
+    /// What is called from here on.
+    pub fn call(&mut self, which: Which) {
+        self.original.called = called::Original::new(which);
+        self.ours.called = called::Ours::new(which);
     }
 
     /// Sets the numbers of all links. No buffer is cleared.

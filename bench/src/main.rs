@@ -2,6 +2,7 @@
 //! `bench/run` runs it twice: under callgrind to count, and then to time and write.
 
 mod both;
+mod called;
 mod count;
 mod original;
 mod ours;

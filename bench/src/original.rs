@@ -1,6 +1,7 @@
 //! The original's side: its calls as functions of their own, over the lean
 //! block of `chip`, and its answers as numbers.
 
+use crate::called::{self, Which};
 use crate::script::{Call, Fields, Wait, ADDRESS};
 use chip::gpio::{OpenDrain, Output, PB6, PB7};
 use chip::rcc::Rcc;
@@ -16,9 +17,10 @@ use std::hint::black_box;
 pub type Link = nonblocking::I2c<I2C1, PB7<Output<OpenDrain>>, PB6<Output<OpenDrain>>>;
 pub type Bus = blocking::I2c<I2C1, PB7<Output<OpenDrain>>, PB6<Output<OpenDrain>>>;
 
-type Started = nb::Result<(), nonblocking::Error>;
-type Checked<'a> = nb::Result<I2cResult<'a>, nonblocking::Error>;
-type Waited = Result<(), blocking::Error>;
+pub type Started = nb::Result<(), nonblocking::Error>;
+pub type Sent = Result<(), nonblocking::Error>;
+pub type Checked<'a> = nb::Result<I2cResult<'a>, nonblocking::Error>;
+pub type Waited = Result<(), blocking::Error>;
 
 // What callgrind counts: each call in a function that is never inlined, and all that it calls.
 
@@ -42,7 +44,7 @@ pub fn original_master_read(link: &mut Link, addr: u16, n: u8) -> Started {
 
 #[no_mangle]
 #[inline(never)]
-pub fn original_slave_write(link: &mut Link, bytes: &[u8]) -> Result<(), nonblocking::Error> {
+pub fn original_slave_write(link: &mut Link, bytes: &[u8]) -> Sent {
     link.slave_write(bytes)
 }
 
@@ -91,7 +93,7 @@ pub fn original_blocking_write_read(
 pub trait Taker {
     fn started(&mut self, answer: Started);
     fn checked(&mut self, answer: Checked);
-    fn sent(&mut self, answer: Result<(), nonblocking::Error>);
+    fn sent(&mut self, answer: Sent);
     fn counted(&mut self, errors: usize);
     fn waited(&mut self, answer: Waited);
 }
@@ -105,7 +107,7 @@ impl Taker for () {
         black_box(&answer);
     }
 
-    fn sent(&mut self, answer: Result<(), nonblocking::Error>) {
+    fn sent(&mut self, answer: Sent) {
         black_box(&answer);
     }
 
@@ -143,7 +145,7 @@ impl Taker for Numbers {
         }
     }
 
-    fn sent(&mut self, answer: Result<(), nonblocking::Error>) {
+    fn sent(&mut self, answer: Sent) {
         *self = answer.map_or_else(failed, |()| [0; 4]);
     }
 
@@ -179,6 +181,7 @@ fn failed(error: nonblocking::Error) -> Numbers {
 
 /// Links, a bus and the buffers that the calls are lent.
 pub struct Original {
+    pub called: called::Original,
     pub links: Vec<Link>,
     pub bus: Bus,
     pub bytes: [u8; 255],
@@ -188,6 +191,7 @@ pub struct Original {
 impl Original {
     pub fn new(bytes: [u8; 255], links: usize) -> Self {
         Original {
+            called: called::Original::new(Which::Driver),
             links: (0..links).map(|_| link()).collect(),
             bus: bus(),
             bytes,
@@ -210,32 +214,34 @@ impl Original {
     #[inline]
     pub fn call(&mut self, link: usize, call: Call, taker: &mut impl Taker) {
         let (link, address) = (&mut self.links[link], ADDRESS.into());
+        let called = &self.called;
         match call {
             Call::MasterWrite(n) => {
-                taker.started(original_master_write(link, address, &self.bytes[..n]))
+                taker.started((called.master_write)(link, address, &self.bytes[..n]))
             }
-            Call::MasterWriteRead(n, m) => taker.started(original_master_write_read(
+            Call::MasterWriteRead(n, m) => taker.started((called.master_write_read)(
                 link,
                 address,
                 &self.bytes[..n],
                 m,
             )),
-            Call::MasterRead(n) => taker.started(original_master_read(link, address, n)),
-            Call::SlaveWrite(n) => taker.sent(original_slave_write(link, &self.bytes[..n])),
-            Call::Check => taker.checked(original_check_isr_flags(link)),
-            Call::Watchdog => original_execute_watchdog(link),
-            Call::Errors => taker.counted(original_get_errors_reset(link)),
+            Call::MasterRead(n) => taker.started((called.master_read)(link, address, n)),
+            Call::SlaveWrite(n) => taker.sent((called.slave_write)(link, &self.bytes[..n])),
+            Call::Check => taker.checked((called.check_isr_flags)(link)),
+            Call::Watchdog => (called.execute_watchdog)(link),
+            Call::Errors => taker.counted((called.get_errors_reset)(link)),
         }
     }
 
     #[inline]
     pub fn wait(&mut self, wait: Wait, taker: &mut impl Taker) {
         let (bus, bytes, buffer) = (&mut self.bus, &self.bytes, &mut self.buffer);
+        let called = &self.called;
         taker.waited(match wait {
-            Wait::Write(n) => original_blocking_write(bus, ADDRESS, &bytes[..n]),
-            Wait::Read(n) => original_blocking_read(bus, ADDRESS, &mut buffer[..n]),
+            Wait::Write(n) => (called.blocking_write)(bus, ADDRESS, &bytes[..n]),
+            Wait::Read(n) => (called.blocking_read)(bus, ADDRESS, &mut buffer[..n]),
             Wait::WriteRead(n, m) => {
-                original_blocking_write_read(bus, ADDRESS, &bytes[..n], &mut buffer[..m])
+                (called.blocking_write_read)(bus, ADDRESS, &bytes[..n], &mut buffer[..m])
             }
         });
     }

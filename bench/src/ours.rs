@@ -1,5 +1,6 @@
 //! Our side: the Rattle module's functions, linked from libffi.a.
 
+use crate::called::{self, Which};
 use crate::original::Numbers;
 use crate::script::{Call, Fields, Wait, ADDRESS};
 
@@ -25,120 +26,11 @@ pub struct Parked([u64; 7]);
 pub struct Out(pub [u64; 6]);
 
 /// The answer of a call that is parked at a missing word.
-const OUT_OF_WORDS: u64 = 9;
-
-extern "C" {
-    fn i2c_master_write(
-        link: *mut Link,
-        addr: u16,
-        bytes: *const u8,
-        bytes_len: usize,
-        words: *const u32,
-        words_len: usize,
-        log: *mut u32,
-        log_len: usize,
-        out: *mut Out,
-    );
-    fn i2c_master_write_read(
-        link: *mut Link,
-        addr: u16,
-        bytes: *const u8,
-        bytes_len: usize,
-        read_len: u8,
-        words: *const u32,
-        words_len: usize,
-        log: *mut u32,
-        log_len: usize,
-        out: *mut Out,
-    );
-    fn i2c_master_read(
-        link: *mut Link,
-        addr: u16,
-        read_len: u8,
-        words: *const u32,
-        words_len: usize,
-        log: *mut u32,
-        log_len: usize,
-        out: *mut Out,
-    );
-    fn i2c_slave_write(
-        link: *mut Link,
-        bytes: *const u8,
-        bytes_len: usize,
-        words: *const u32,
-        words_len: usize,
-        log: *mut u32,
-        log_len: usize,
-        out: *mut Out,
-    );
-    fn i2c_check_isr_flags(
-        link: *mut Link,
-        words: *const u32,
-        words_len: usize,
-        log: *mut u32,
-        log_len: usize,
-        out: *mut Out,
-    );
-    fn i2c_execute_watchdog(
-        link: *mut Link,
-        words: *const u32,
-        words_len: usize,
-        log: *mut u32,
-        log_len: usize,
-        out: *mut Out,
-    );
-    fn i2c_get_errors_reset(link: *mut Link, out: *mut Out);
-    fn i2c_blocking_write(
-        parked: *mut Parked,
-        address: u8,
-        bytes: *const u8,
-        bytes_len: usize,
-        words: *const u32,
-        words_len: usize,
-        log: *mut u32,
-        log_len: usize,
-        out: *mut Out,
-    );
-    fn i2c_blocking_read(
-        parked: *mut Parked,
-        address: u8,
-        buffer: *mut u8,
-        buffer_len: usize,
-        words: *const u32,
-        words_len: usize,
-        log: *mut u32,
-        log_len: usize,
-        out: *mut Out,
-    );
-    fn i2c_blocking_write_read(
-        parked: *mut Parked,
-        address: u8,
-        bytes: *const u8,
-        bytes_len: usize,
-        buffer: *mut u8,
-        buffer_len: usize,
-        words: *const u32,
-        words_len: usize,
-        log: *mut u32,
-        log_len: usize,
-        out: *mut Out,
-    );
-    fn i2c_blocking_resume(
-        parked: *mut Parked,
-        send: *const u8,
-        send_len: usize,
-        receive: *mut u8,
-        receive_len: usize,
-        words: *const u32,
-        words_len: usize,
-        log: *mut u32,
-        log_len: usize,
-        out: *mut Out,
-    );
-}
+pub const OUT_OF_WORDS: u64 = 9;
 
 /// Links, a parked call, the buffers that the calls are lent, and how far the words and the log are used.
 pub struct Ours {
+    pub called: called::Ours,
     pub links: Vec<Link>,
     pub parked: Parked,
     pub bytes: [u8; 255],
@@ -161,6 +53,7 @@ impl Ours {
             data: [0; 255],
         };
         Ours {
+            called: called::Ours::new(Which::Driver),
             links: (0..links).map(|_| link()).collect(),
             parked: Parked([0; 7]),
             bytes,
@@ -213,39 +106,42 @@ impl Ours {
         let (words, log) = (&words[self.taken..], &mut log[self.logged..]);
         let (w, wn, l, ln) = (words.as_ptr(), words.len(), log.as_mut_ptr(), log.len());
         let (link, out) = (&raw mut self.links[link], &raw mut self.out);
+        let called = &self.called;
         let (address, bytes) = (ADDRESS.into(), self.bytes.as_ptr());
         unsafe {
             match call {
                 Call::MasterWrite(n) => {
-                    i2c_master_write(link, address, bytes, n, w, wn, l, ln, out)
+                    (called.master_write)(link, address, bytes, n, w, wn, l, ln, out)
                 }
                 Call::MasterWriteRead(n, m) => {
-                    i2c_master_write_read(link, address, bytes, n, m, w, wn, l, ln, out)
+                    (called.master_write_read)(link, address, bytes, n, m, w, wn, l, ln, out)
                 }
-                Call::MasterRead(n) => i2c_master_read(link, address, n, w, wn, l, ln, out),
-                Call::SlaveWrite(n) => i2c_slave_write(link, bytes, n, w, wn, l, ln, out),
-                Call::Check => i2c_check_isr_flags(link, w, wn, l, ln, out),
-                Call::Watchdog => i2c_execute_watchdog(link, w, wn, l, ln, out),
-                Call::Errors => i2c_get_errors_reset(link, out),
+                Call::MasterRead(n) => (called.master_read)(link, address, n, w, wn, l, ln, out),
+                Call::SlaveWrite(n) => (called.slave_write)(link, bytes, n, w, wn, l, ln, out),
+                Call::Check => (called.check_isr_flags)(link, w, wn, l, ln, out),
+                Call::Watchdog => (called.execute_watchdog)(link, w, wn, l, ln, out),
+                Call::Errors => (called.get_errors_reset)(link, out),
             }
         }
-        self.went();
+        self.went(self.taken);
     }
 
-    /// The waiting call: with `cut` it gets one word a run, parks, and is resumed.
+    /// The waiting call: with `cut` it gets one word more a run, parks, and is resumed with the
+    /// whole list and how many words were taken.
     #[inline]
     pub fn wait(&mut self, wait: Wait, cut: bool, words: &[u32], log: &mut [u32]) {
-        let step = if cut { 1 } else { words.len() };
-        let first = &words[self.taken..];
-        let room = &mut log[self.logged..];
-        let (w, wn, l, ln) = (
-            first.as_ptr(),
-            step.min(first.len()),
-            room.as_mut_ptr(),
-            room.len(),
-        );
+        let given = |taken| {
+            if cut {
+                words.len().min(taken + 1)
+            } else {
+                words.len()
+            }
+        };
+        let (w, wn) = (words.as_ptr(), given(0));
+        let (l, ln) = (log.as_mut_ptr(), log.len());
         let (parked, out) = (&raw mut self.parked, &raw mut self.out);
         let (bytes, buffer) = (self.bytes.as_ptr(), self.buffer.as_mut_ptr());
+        let called = &self.called;
         let (send, receive) = match wait {
             Wait::Write(n) => (n, 0),
             Wait::Read(n) => (0, n),
@@ -253,33 +149,40 @@ impl Ours {
         };
         unsafe {
             match wait {
-                Wait::Write(n) => i2c_blocking_write(parked, ADDRESS, bytes, n, w, wn, l, ln, out),
-                Wait::Read(n) => i2c_blocking_read(parked, ADDRESS, buffer, n, w, wn, l, ln, out),
-                Wait::WriteRead(n, m) => {
-                    i2c_blocking_write_read(parked, ADDRESS, bytes, n, buffer, m, w, wn, l, ln, out)
+                Wait::Write(n) => {
+                    (called.blocking_write)(parked, ADDRESS, bytes, n, w, wn, l, ln, out)
                 }
+                Wait::Read(n) => {
+                    (called.blocking_read)(parked, ADDRESS, buffer, n, w, wn, l, ln, out)
+                }
+                Wait::WriteRead(n, m) => (called.blocking_write_read)(
+                    parked, ADDRESS, bytes, n, buffer, m, w, wn, l, ln, out,
+                ),
             }
         }
-        self.went();
+        self.went(0);
         while self.out.0[0] == OUT_OF_WORDS && self.taken < words.len() {
-            let next = &words[self.taken..];
+            let (taken, wn) = (self.taken, given(self.taken));
             let room = &mut log[self.logged..];
-            let (w, wn) = (next.as_ptr(), step.min(next.len()));
             let (l, ln) = (room.as_mut_ptr(), room.len());
+            let resume = self.called.blocking_resume;
             unsafe {
-                i2c_blocking_resume(parked, bytes, send, buffer, receive, w, wn, l, ln, out);
+                resume(
+                    parked, taken, bytes, send, buffer, receive, w, wn, l, ln, out,
+                )
             }
-            self.went();
+            self.went(0);
         }
     }
 
-    /// Goes on by the words taken and the places logged. They are read one by one, as they were
-    /// written: a read of both at once would wait for the writes to leave the processor's buffer.
+    /// Goes on by the words taken, counted from this place on, and the places logged. They are read
+    /// one by one, as they were written: a read of both at once would wait for the writes to leave
+    /// the processor's buffer.
     #[inline]
-    fn went(&mut self) {
+    fn went(&mut self, from: usize) {
         let counts = (&raw const self.out.0[1], &raw const self.out.0[2]);
         let (taken, logged) = unsafe { (counts.0.read_volatile(), counts.1.read_volatile()) };
-        self.taken += taken as usize;
+        self.taken = from + taken as usize;
         self.logged += logged as usize;
     }
 }

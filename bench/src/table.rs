@@ -8,7 +8,8 @@ use std::fmt::Write;
 pub struct Line<'a> {
     pub name: &'a str,
     pub counts: Counts,
-    pub time: f64,
+    /// None where the original's calls are too short.
+    pub time: Option<f64>,
 }
 
 /// The tables.
@@ -21,9 +22,11 @@ pub fn text(machine: &str, lines: &[Line], sizes: &[Size], states: &[State]) -> 
     for line in lines {
         let Counts { original, ours } = line.counts;
         let ratio = ours as f64 / original as f64;
-        let time = line.time;
+        let time = line
+            .time
+            .map_or("-".to_string(), |time| format!("{time:.2}"));
         put(format!(
-            "| {} | {original} | {ours} | {ratio:.2} | {time:.2} |",
+            "| {} | {original} | {ours} | {ratio:.2} | {time} |",
             line.name
         ));
     }

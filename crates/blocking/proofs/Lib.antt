@@ -1,10 +1,3 @@
-pub mod Accesses
-pub mod Blocks
-pub mod Carries
-pub mod Ends
-pub mod Finish
-pub mod Moves
-pub mod AccessInRun
-pub mod Parts
-pub mod Puts
+pub mod Bytes
+pub mod Goes
 pub mod Wholes

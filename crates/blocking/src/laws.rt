@@ -2,8 +2,9 @@
 
 ghost use Rattle.blocking_meaning.specs.BufferLaw.{BufferLaw};
 ghost use Rattle.blocking_meaning.specs.CutLaw.{CutLaw};
+ghost use Rattle.blocking_meaning.specs.NextLaw.{NextLaw};
 
-// However the words are cut, the runs joined are one uncut run.
+// However the words are cut, the runs joined are one uncut run; a caller may keep one list that grows and one count.
 #[tactic(auto, using(blocking_meaning::proofs::Cuts::cut_law))]
 pub fn cut_law()
     ensures { CutLaw }
@@ -13,4 +14,10 @@ pub fn cut_law()
 #[tactic(auto, using(blocking_meaning::proofs::Buffers::buffer_law))]
 pub fn buffer_law()
     ensures { BufferLaw }
+{}
+
+// What `next` names is what a run does next.
+#[tactic(auto, using(blocking_meaning::proofs::NextAccesses::next_law))]
+pub fn next_law()
+    ensures { NextLaw }
 {}

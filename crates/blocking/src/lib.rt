@@ -5,7 +5,7 @@
 pub mod immediate;
 pub mod laws;
 pub mod master;
-mod plain_bytes;
-mod plain_calls;
+mod progress;
 pub mod run;
 pub mod slave;
+mod transfer;

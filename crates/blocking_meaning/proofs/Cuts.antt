@@ -22,9 +22,10 @@ use Rattle.parked.specs.Refusals.{begun, is_nothing, ended, wrong}
 use Rattle.parked.specs.declared.kinds.Kind.{Kind}
 use Rattle.parked.specs.Kinds.{lengths}
 use Rattle.blocking_meaning.specs.Run.{RunOutcome, without_access, joined, with_byte, step, full, next, runs, run_outcome, called}
-use Rattle.blocking_meaning.specs.CutLaw.{Cut, accesses, unless_ended, cut_runs, all_words, Spare, CutLaw}
+use Rattle.blocking_meaning.specs.CutLaw.{Cut, accesses, unless_ended, cut_runs, growing_runs, all_words, Spare, CutLaw}
 use Rattle.parked.proofs.HandedOn.{access_at_lem}
 use Rattle.blocking_meaning.proofs.OneAccess.{run_over, run_out, full_read, full_write, outcome_wrong, outcome_right}
+use Rattle.blocking_meaning.proofs.Grows.{grown_from_first}
 use Rattle.blocking_meaning.proofs.Joins.{cut}
 use Rattle.blocking_meaning.proofs.Sound.{Sound, kept_run, right, sound_of}
 
@@ -188,6 +189,10 @@ joins s p b c cs m h =
     subst (λ (q : RunOutcome). Spare m q → q ≡ run_outcome s (accesses q.numbers + m) p b (all_words c cs)) (sym (cut_from s p b [] c cs))
     (λ k. sym (enough s (cut_room s p b [] c cs) p b (all_words c cs) m (wrong p (length s) (length b)) refl k)) h
 
+grows : (s : List ℕ) (p : Parked) (b : List ℕ) (c : Cut) (cs : List Cut) (m : ℕ) → Spare m (growing_runs s p 0 b [] c cs)
+    → growing_runs s p 0 b [] c cs ≡ run_outcome s (accesses (growing_runs s p 0 b [] c cs).numbers + m) p b (all_words c cs)
+grows s p b c cs m = rw (grown_from_first s p b c cs) (joins s p b c cs m)
+
 -- a call that is begun with good lengths is run
 begin_runs : (k : Kind) (address : ℕ) (s : List ℕ) (n : ℕ) (b ws : List ℕ) → lengths k (length s) (length b) ≡ true → called k address s n b ws ≡ run_outcome s n (begun k address (length s) (length b)) b ws
 unfolding called
@@ -197,5 +202,7 @@ pub cut_law : CutLaw
 cut_law = record {
   joins = joins;
   begins = λ k address s b c cs m g h. joins s (begun k address (length s) (length b)) b c cs m h ∙ sym (begin_runs k address s _ b (all_words c cs) g);
+  grows = grows;
+  begins_grows = λ k address s b c cs m g h. grows s (begun k address (length s) (length b)) b c cs m h ∙ sym (begin_runs k address s _ b (all_words c cs) g);
   nothing_new = λ s n p b ws m h e. still s n p b ws m (wrong p (length s) (length b)) refl h e;
 }

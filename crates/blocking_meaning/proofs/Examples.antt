@@ -49,13 +49,13 @@ read_remembers : begun_read.parked.phase ≡ Open (Setup 0x03000000)
 unfolding begun_read called run_outcome runs wrong lengths fits next_access after span more wanted compared_length full_frame addr_answer stop_answer second_half_begins byte_moves found_in direction_of started sized nack_next_byte get put is_set
 read_remembers = refl
 
--- resumed with the rest of the words it gets one byte, and STOPF makes it a short frame of one
+-- resumed with the whole list, three of its words taken, it gets one byte, and STOPF makes it a short frame of one; all eight words are taken
 read_resumed : shown (resumed [] 20 begun_read.parked 3 (9 ∷ 9 ∷ []) (0 ∷ 0xAA ∷ 0x03000000 ∷ 4 ∷ 0x13C ∷ 0x20 ∷ 2 ∷ 1 ∷ []))
     ≡ (
       says 5 (1 ∷ []),
       0x104 ∷ 0x020224A0 ∷ 0x18 ∷ 4 ∷ 0x24 ∷ 0x13C ∷ 0x18 ∷ 0x20 ∷ 0x18 ∷ 2 ∷ 0x128 ∷ 0 ∷ 0x18 ∷ 1 ∷ 0x118 ∷ 1 ∷ 0x11C ∷ 0x20 ∷ [],
       0x3C ∷ 9 ∷ [],
-      5,
+      8,
     )
 unfolding begun_read called run_outcome runs wrong lengths fits next_access after span more wanted compared_length full_frame addr_answer stop_answer second_half_begins byte_moves found_in direction_of started sized nack_next_byte get put is_set
 read_resumed = refl

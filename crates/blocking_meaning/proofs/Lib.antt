@@ -1,9 +1,12 @@
 pub mod Buffers
 pub mod Cuts
 pub mod Examples
+pub mod Grows
 pub mod HandedOn
 pub mod Joins
+pub mod NextAccesses
 pub mod OneAccess
 pub mod Phased
 pub mod Promises
 pub mod Sound
+pub mod Taken

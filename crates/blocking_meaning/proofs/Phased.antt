@@ -1,6 +1,5 @@
 -- The access that a call wants at the two phases of a transfer, and the length that its count counts to.
 use Prim.Native.Nat.{ℕ, ◌+◌}
-use lib.Dec.{ltb}
 use mathlib.Core.Path.{◌≡◌, refl, ◌∙◌}
 use mathlib.Core.Bool.{Bool, true, false, cond}
 use mathlib.Core.List.{List}
@@ -17,7 +16,7 @@ use Rattle.parked.specs.declared.phases.Phase.TheVariants.{Wait, Transfer}
 use Rattle.parked.specs.declared.next_access.Next.TheVariants.{Read, Write}
 use Rattle.parked.specs.declared.Parked.{Parked}
 use Rattle.parked.specs.Kinds.{incoming, pads}
-use Rattle.parked.specs.NextAccess.{span, more}
+use Rattle.parked.specs.NextAccess.{more}
 use Rattle.parked.specs.BusyWait.{wanted, after_found}
 use Rattle.parked.proofs.HandedOn.{access_at_lem}
 use Rattle.blocking_meaning.specs.Run.{next}
@@ -33,22 +32,6 @@ module _ (s : List ℕ) (p : Parked) where
   next_out e i = access_at_lem p _ Transfer e ∙ rw i
 
 module _ (p : Parked) where
-  pub span_in : incoming p.kind ≡ true → p.receive ≡ span p
-  unfolding span
-  span_in i = rw i
-
-  pub span_out : incoming p.kind ≡ false → p.send ≡ span p
-  unfolding span
-  span_out i = rw i
-
-  pub more_in : incoming p.kind ≡ true → ltb p.count p.receive ≡ more p
-  unfolding more span
-  more_in i = rw i
-
-  pub more_out : incoming p.kind ≡ false → ltb p.count p.send ≡ more p
-  unfolding more span
-  more_out i = rw i
-
   pub wanted_in : incoming p.kind ≡ true → wanted p ≡ Rxne
   unfolding wanted
   wanted_in i = rw i

@@ -1,3 +1,4 @@
 pub mod BufferLaw
 pub mod CutLaw
+pub mod NextLaw
 pub mod Run

@@ -73,9 +73,10 @@ called k address s n b ws =
     (run_outcome s n (begun k address (length s) (length b)) b ws)
     (without_access (says 6 []) (refused_at_begin k address (length s) (length b)) b)
 
--- a parked call continues with the rest of the words, from the first one not taken
+-- a parked call continues with the rest of the words, from the first one not taken; `taken` counts from the first word of the list, before the
+-- run and after it
 abbrev pub resumed : List ℕ → ℕ → Parked → ℕ → List ℕ → List ℕ → RunOutcome
-resumed s n p taken b ws = run_outcome s n p b (drop taken ws)
+resumed s n p taken b ws = joined taken [] (run_outcome s n p b (drop taken ws))
 
 -- an access takes two places of the log
 abbrev pub room : List ℕ → ℕ

@@ -1,4 +1,5 @@
-// A run of a blocking call: what it means, and the cut law and the buffer law over it, which the crate `blocking` hands on as promises.
+// A run of a blocking call: what it means, and the cut law, the buffer law and the law of the next access over it, which the crate `blocking`
+// hands on as promises.
 #![tactic(auto)]
 
 use parked::Parked;

@@ -1,2 +1,5 @@
 pub mod Back
+pub mod CutsInNumbers
+pub mod First
 pub mod Promises
+pub mod RunKeeps

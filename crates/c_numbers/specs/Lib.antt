@@ -1,3 +1,5 @@
 pub mod Answer
 pub mod Config
+pub mod CutNumbers
+pub mod Next
 pub mod ParkedCall

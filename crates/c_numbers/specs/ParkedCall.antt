@@ -1,6 +1,6 @@
--- A parked call as seven numbers, which a caller keeps until it resumes the call, and what a run leaves to a caller.
+-- A parked call as seven numbers, which a caller keeps until it resumes the call, and what a run leaves of them.
 pub use Rattle.parked.specs.Kinds.{kind_number, kinds, kind_of}
-use Rattle.std.specs.Prelude.{ℕ, ◌%◌, ◌<◌, ◌≡◌, List, [], ◌∷◌, get_or}
+use Rattle.std.specs.Prelude.{ℕ, ◌%◌, ◌<◌, ◌≡◌, Bool, cond, ◌||◌, eqb, List, [], ◌∷◌, get_or}
 use Rattle.parked.specs.declared.phases.Opening.{Opening}
 use Rattle.parked.specs.declared.phases.Opening.TheVariants.{Start, Drain, Modify, Setup, Flush, Release, Probe, Drop}
 use Rattle.parked.specs.declared.phases.End.{End}
@@ -9,7 +9,7 @@ use Rattle.parked.specs.declared.phases.Phase.{Phase}
 use Rattle.parked.specs.declared.phases.Phase.TheVariants.{Open, Wait, Transfer, Restart, TcrFound, NackNextByte, ClearBerr, ClearArlo, ClearNackf, ClearStopf, FlushTxis, FlushDummy, FlushTxe, FlushEmpty, Listen, Code, Ended}
 use Rattle.parked.specs.declared.Parked.{Parked}
 use Rattle.blocking_meaning.specs.declared.Ran.{Ran}
-use Rattle.registers.specs.Answers.{said}
+use Rattle.registers.specs.Answers.{Said, said}
 use Rattle.c_numbers.specs.Answer.{six}
 
 abbrev pub opening_number : Opening → ℕ
@@ -121,9 +121,21 @@ loaded xs = record {
 abbrev pub LoadsStored : Type 0
 LoadsStored = (p : Parked) → p.address < 256 → phase_word p.phase < 4294967296 → loaded (stored p) ≡ p
 
--- the numbers are those of what a run returned, of which the call's contract holds
-pub record StoredRun (holds : Ran → Type 0) (kept out : List ℕ) : Type 0 where
+-- 6 or 11: the call was not run
+abbrev pub refused : Said → Bool
+refused a = eqb a.number 6 || eqb a.number 11
+
+-- the numbers after a run that gave this answer and this call: as they were where it was refused
+abbrev pub kept : List ℕ → Said → Parked → List ℕ
+kept numbers a p = cond (refused a) numbers (stored p)
+
+-- what a run leaves to a caller: the numbers after it, and the answer's
+abbrev pub Leaves : Ran → List ℕ → List ℕ → List ℕ → Type 0
+Leaves ran before after out =
+    (after ≡ kept before (said ran.report.answer) ran.parked) × (out ≡ six (said ran.report.answer) ran.report.taken ran.report.logged)
+
+-- the numbers before and after, and the answer's, are those of what a run returned, of which the call's contract holds
+pub record StoredRun (holds : Ran → Type 0) (before after out : List ℕ) : Type 0 where
   pub ran : Ran
   pub held : holds ran
-  pub call : kept ≡ stored ran.parked
-  pub numbers : out ≡ six (said ran.report.answer) ran.report.taken ran.report.logged
+  pub leaves : Leaves ran before after out

@@ -1,15 +1,16 @@
 // A parked call as seven numbers, which a caller keeps until it resumes the call.
 
 ghost use Rattle.std.specs.Prelude.{◌≡◌};
-ghost use Rattle.c_numbers.specs.ParkedCall.{phase_number, phase_word, stored, LoadsStored, phase_of, loaded};
+ghost use Rattle.c_numbers.specs.ParkedCall.{phase_number, opening_number, end_number, phase_word, stored, LoadsStored, phase_of, loaded, refused, Leaves};
+ghost use Rattle.c_numbers.specs.CutNumbers.{CutNumbers};
 ghost use Rattle.registers.specs.Answers.{said};
-ghost use Rattle.c_numbers.specs.Answer.{six};
 
 use crate::answer::store_report;
 use blocking_meaning::Ran;
 use parked::Parked;
 use parked::kinds::Kind;
 use parked::phases::{End, Opening, Phase};
+use registers::answers::Answer;
 
 // A call that is stored and loaded is the same call.
 #[tactic(auto, using(crate::proofs::Back::loads_stored))]
@@ -17,18 +18,23 @@ pub fn loads_stored()
     ensures { LoadsStored }
 {}
 
+// However the words are cut, the runs of a caller that keeps seven numbers and one count are, joined, one uncut run.
+#[tactic(auto, using(crate::proofs::CutsInNumbers::cut_numbers))]
+pub fn cut_numbers()
+    ensures { CutNumbers }
+{}
+
 // The numbers go straight to the array that C lends.
-fn store(call: Parked, kept: &mut [u64; 7])
-    ensures { kept.new ≡ stored call }
+fn store(call: Parked, numbers: &mut [u64; 7])
+    ensures { numbers.new ≡ stored call }
 {
-    let (phase, word) = numbers_of(call.phase);
-    *kept = [
+    *numbers = [
         call.kind as u64,
         call.address as u64,
         call.send as u64,
         call.receive as u64,
-        phase,
-        word as u64,
+        number_of(call.phase),
+        word_of(call.phase) as u64,
         call.count as u64,
     ];
 }
@@ -48,52 +54,88 @@ pub fn load(numbers: &[u64; 7]) -> Parked
     }
 }
 
-// What a run returned: the parked call and the answer.
-pub fn store_run(ran: Ran, kept: &mut [u64; 7], out: &mut [u64; 6])
-    ensures { (kept.new ≡ stored ran.parked) × (out.new ≡ six (said ran.report.answer) ran.report.taken ran.report.logged) }
+// What a run returned: the parked call and the answer. A call that is refused leaves the numbers, so that a begin refused for its length loses no
+// parked call. Inlined, since what a run returns would else go through memory once more.
+#[inline(always)]
+pub fn store_run(ran: Ran, numbers: &mut [u64; 7], out: &mut [u64; 6])
+    ensures { Leaves ran numbers.old numbers.new out.new }
 {
-    store(ran.parked, kept);
     store_report(ran.report, out);
+    if !refused(ran.report.answer) {
+        store(ran.parked, numbers);
+    }
 }
 
-// A phase's number, and the word that it remembers, 0 where it has none. C keeps these numbers; no cast gives them, since some phases hold
-// a word.
-fn numbers_of(phase: Phase) -> (u64, u32)
-    ensures number { result.0 ≡ phase_number phase }
-    ensures word { result.1 ≡ phase_word phase }
+fn refused(answer: Answer) -> bool
+    ensures { result ≡ refused (said answer) }
+{
+    matches!(answer, Answer::BadLength | Answer::WrongCall)
+}
+
+// A phase's number. C keeps these numbers; no cast gives them, since some phases hold a word.
+fn number_of(phase: Phase) -> u64
+    ensures { result ≡ phase_number phase }
 {
     match phase {
-        Phase::Open(Opening::Start) => (0, 0),
-        Phase::Open(Opening::Drain) => (1, 0),
-        Phase::Open(Opening::Modify) => (2, 0),
-        Phase::Open(Opening::Setup(word)) => (3, word),
-        Phase::Open(Opening::Flush) => (4, 0),
-        Phase::Open(Opening::Release) => (5, 0),
-        Phase::Open(Opening::Probe) => (6, 0),
-        Phase::Open(Opening::Drop) => (7, 0),
-        Phase::Wait => (8, 0),
-        Phase::Transfer => (9, 0),
-        Phase::Restart => (10, 0),
-        Phase::TcrFound => (11, 0),
-        Phase::NackNextByte(word) => (12, word),
-        Phase::ClearBerr => (13, 0),
-        Phase::ClearArlo => (14, 0),
-        Phase::ClearNackf => (15, 0),
-        Phase::ClearStopf => (16, 0),
-        Phase::FlushTxis => (17, 0),
-        Phase::FlushDummy => (18, 0),
-        Phase::FlushTxe => (19, 0),
-        Phase::FlushEmpty => (20, 0),
-        Phase::Listen => (21, 0),
-        Phase::Code => (22, 0),
-        Phase::Ended(End::OutOfWords) => (23, 0),
-        Phase::Ended(End::LogFull) => (24, 0),
-        Phase::Ended(End::BadLength) => (25, 0),
-        Phase::Ended(End::Berr) => (26, 0),
-        Phase::Ended(End::Arlo) => (27, 0),
-        Phase::Ended(End::Addr) => (28, 0),
-        Phase::Ended(End::Stopf) => (29, 0),
-        Phase::Ended(End::Addressed(word)) => (30, word),
+        Phase::Open(opening) => opening_number(opening),
+        Phase::Wait => 8,
+        Phase::Transfer => 9,
+        Phase::Restart => 10,
+        Phase::TcrFound => 11,
+        Phase::NackNextByte(_) => 12,
+        Phase::ClearBerr => 13,
+        Phase::ClearArlo => 14,
+        Phase::ClearNackf => 15,
+        Phase::ClearStopf => 16,
+        Phase::FlushTxis => 17,
+        Phase::FlushDummy => 18,
+        Phase::FlushTxe => 19,
+        Phase::FlushEmpty => 20,
+        Phase::Listen => 21,
+        Phase::Code => 22,
+        Phase::Ended(end) => end_number(end),
+    }
+}
+
+fn opening_number(opening: Opening) -> u64
+    ensures { result ≡ opening_number opening }
+{
+    match opening {
+        Opening::Start => 0,
+        Opening::Drain => 1,
+        Opening::Modify => 2,
+        Opening::Setup(_) => 3,
+        Opening::Flush => 4,
+        Opening::Release => 5,
+        Opening::Probe => 6,
+        Opening::Drop => 7,
+    }
+}
+
+fn end_number(end: End) -> u64
+    ensures { result ≡ end_number end }
+{
+    match end {
+        End::OutOfWords => 23,
+        End::LogFull => 24,
+        End::BadLength => 25,
+        End::Berr => 26,
+        End::Arlo => 27,
+        End::Addr => 28,
+        End::Stopf => 29,
+        End::Addressed(_) => 30,
+    }
+}
+
+// The word that a phase remembers, 0 where it has none.
+fn word_of(phase: Phase) -> u32
+    ensures { result ≡ phase_word phase }
+{
+    match phase {
+        Phase::Open(Opening::Setup(word))
+        | Phase::NackNextByte(word)
+        | Phase::Ended(End::Addressed(word)) => word,
+        _ => 0,
     }
 }
 

@@ -27,6 +27,10 @@ either : (t : Bool) (a b n : ℕ) → a < n → b < n → cond t a b < n
 either true a b n h k = h
 either false a b n h k = k
 
+pub more_fits : (p : Parked) (n : ℕ) → p.receive < n → p.send < n → more p ≡ true → p.count + 1 < n
+unfolding more span
+more_fits p n h k e = omega (arith, ltb-true _ _ e, either (incoming p.kind) p.receive p.send n h k)
+
 pub moves_fits : (p : Parked) (n : ℕ) → p.receive < n → p.send < n → byte_moves p ≡ true → p.count + 1 < n
-unfolding span
-moves_fits p n h k e = omega (arith, moves_below p e, either (incoming p.kind) p.receive p.send n h k)
+unfolding byte_moves
+moves_fits p n h k e = more_fits p n h k (moved (count_effect p.phase) (more p) e)

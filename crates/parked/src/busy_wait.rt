@@ -90,13 +90,15 @@ impl Parked {
         }
     }
 
-    // At the wanted flag: TC restarts; a byte is moved while one is left, and a slave sends on.
+    // At the wanted flag: a byte is moved while one is left; then TC restarts, and a slave sends on.
     fn after_wanted(self) -> Phase
         ensures { result ≡ after_wanted self }
     {
-        if self.tc_wait() {
+        if self.more() {
+            Phase::Transfer
+        } else if self.kind.restarts() {
             Phase::Restart
-        } else if self.more() || self.kind.pads() {
+        } else if self.kind.pads() {
             Phase::Transfer
         } else {
             Phase::Wait
@@ -104,7 +106,7 @@ impl Parked {
     }
 
     // The phase after a word of ISR: the wanted flag, then the others in the order of `busy_wait`. A final flag ends the whole call.
-    pub(crate) fn busy_wait(self, isr: u32) -> Phase
+    pub fn busy_wait(self, isr: u32) -> Phase
         ensures { result ≡ after_found (found_in isr (wanted self)) self }
     {
         match self.wanted().found_in(isr) {

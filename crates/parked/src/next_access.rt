@@ -91,7 +91,9 @@ impl Parked {
         }
     }
 
-    // The next access, or why none follows. `byte` is the one to send at the count.
+    // The next access, or why none follows. `byte` is the one to send at the count. Inlined, since a host asks it beside the run: with two callers
+    // each access of a run would be a call.
+    #[inline(always)]
     #[tactic(auto, unfolding(crate::specs::NextAccess::next_access))]
     pub fn next_access(self, byte: u8) -> Result<Next, End>
         ensures { result ≡ next_access self byte }
@@ -192,6 +194,8 @@ impl Parked {
         self.phase.count_effect() == CountEffect::Byte && self.more()
     }
 
+    // Inlined, as the access is.
+    #[inline(always)]
     #[tactic(auto, unfolding(crate::specs::After::after))]
     pub fn after(self, word: u32) -> Parked
         ensures { result ≡ after self word }

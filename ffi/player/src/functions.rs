@@ -208,6 +208,7 @@ extern "C" {
     );
     pub fn i2c_blocking_resume(
         parked: *mut u64,
+        taken: u64,
         send: *const u8,
         send_len: usize,
         receive: *mut u8,
@@ -217,6 +218,12 @@ extern "C" {
         log: *mut u32,
         log_len: usize,
         out: *mut u64,
+    );
+    pub fn i2c_blocking_next(
+        parked: *const u64,
+        bytes: *const u8,
+        bytes_len: usize,
+        next: *mut u64,
     );
     pub fn i2c_blocking_slave_addressed(
         words: *const u32,

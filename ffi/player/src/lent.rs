@@ -12,10 +12,14 @@ const FENCE: usize = 2;
 const WRITE: u32 = 0x100;
 
 pub struct Lent {
+    /// The whole list, and how many of it were taken before this call.
     pub words: Vec<u32>,
+    taken: u64,
     pub log: Vec<u32>,
     pub places: usize,
     pub out: [u64; 6 + FENCE],
+    /// What else the call must not have done.
+    found: Option<String>,
 }
 
 /// Calls a function whose last arguments are the words, the log and the answer.
@@ -41,10 +45,22 @@ impl Lent {
         };
         Lent {
             words,
+            taken: 0,
             log: vec![UNTOUCHED; places + FENCE],
             places,
             out: [UNTOUCHED.into(); 6 + FENCE],
+            found: None,
         }
+    }
+
+    /// The words stand after those that were taken before.
+    pub fn follow(&mut self, before: &[u32], taken: u64) {
+        self.words.splice(..0, before.iter().copied());
+        self.taken = taken;
+    }
+
+    pub fn find(&mut self, said: String) {
+        self.found = Some(said);
     }
 
     /// The accesses and the answer; the bytes that it shows are the first of `data`.
@@ -59,7 +75,7 @@ impl Lent {
         usize::try_from(self.out[2]).map_or(self.places, |logged| logged.min(self.places))
     }
 
-    fn accesses(&self) -> Vec<Access> {
+    pub fn accesses(&self) -> Vec<Access> {
         let pairs = self.log[..self.logged()].chunks_exact(2);
         pairs
             .map(|pair| Access {
@@ -75,8 +91,11 @@ impl Lent {
         let reads = accesses.iter().filter(|access| !access.write).count() as u64;
         let stays = |place: &u32| *place == UNTOUCHED;
         let logged = self.logged();
-        let said = if self.out[1] != reads {
-            format!("{} words taken, {reads} reads logged", self.out[1])
+        let said = if let Some(found) = &self.found {
+            found.clone()
+        } else if self.out[1] != self.taken + reads {
+            let (taken, before) = (self.out[1], self.taken);
+            format!("{taken} words taken, {before} before, {reads} reads logged")
         } else if self.out[2] != 2 * accesses.len() as u64 {
             format!("{} places of {} logged", self.out[2], self.places)
         } else if !self.log[logged..].iter().all(stays) {

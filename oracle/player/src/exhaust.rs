@@ -1,6 +1,8 @@
 //! The exhaustive part: every set of document 01's ten ISR flags, over every
-//! branch of `check_isr_flags` and over every wait of the blocking driver.
+//! branch of `check_isr_flags` and over every wait of the blocking driver; and
+//! waiting calls cut at every pair of places.
 
+use crate::cuts::scenes;
 use std::io::{self, Write};
 
 const SETS: u32 = 1 << 10;
@@ -84,6 +86,14 @@ pub fn exhaust(out: &mut impl Write) -> io::Result<()> {
     for call in ["bl slave_wait_addressed", "bl slave_addressed"] {
         every_word(out, call, "", 0)?;
         every_word(out, call, "", DIR)?;
+    }
+    writeln!(
+        out,
+        "# waiting calls uncut, and cut at every pair of places"
+    )?;
+    for scene in scenes() {
+        out.write_all(scene.whole.as_bytes())?;
+        out.write_all(scene.cut.concat().as_bytes())?;
     }
     Ok(())
 }

@@ -5,6 +5,7 @@ pub mod answer;
 pub mod call;
 pub mod compare;
 mod config;
+pub mod cuts;
 pub mod draw;
 pub mod exhaust;
 mod lexis;

@@ -1,6 +1,6 @@
 //! The blocking calls that wait. The Rust cannot park, so a resumed call runs
-//! anew from its begin over all words taken so far and the new ones; the
-//! accesses already shown are passed over.
+//! anew from its begin over all words taken so far and the new ones, as one
+//! uncut run; the accesses already shown are passed over.
 
 use crate::answer::{Answer, DONE};
 use crate::call::{Begin, Kind};

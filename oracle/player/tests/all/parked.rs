@@ -1,34 +1,8 @@
 //! Waiting calls that park and are resumed.
 
 use crate::common::{last, played, without};
+use oracle::cuts::scenes;
 use oracle::player::Ruling::{Document, Rust};
-
-/// Calls with all the words up to their end.
-const CALLS: [(&str, &[&str]); 7] = [
-    (
-        "bl write 50 0102",
-        &["2000", "0", "0", "10", "2", "80", "0", "2", "20", "3", "1"],
-    ),
-    (
-        "bl read 50 AABB",
-        &["0", "99", "0", "0", "4", "11", "4", "22", "20", "0", "1"],
-    ),
-    (
-        "bl write_read 50 01 AABB",
-        &["0", "2", "10", "40", "4", "11", "4", "22", "4", "8"],
-    ),
-    ("bl write_read 50 01 AABB", &["0", "2", "20", "2", "1"]),
-    ("bl slave_write 0102", &["0", "2", "2", "2", "20", "2", "0"]),
-    (
-        "bl slave_read AABB",
-        &["0", "4", "33", "4", "11", "80", "FFFFFFFF", "20", "0", "0"],
-    ),
-    ("bl slave_wait_addressed", &["0", "10", "8", "A50008"]),
-];
-
-fn uncut(call: &str, words: &[&str]) -> String {
-    played(Document, &format!("{call} | {}", words.join(" ")))
-}
 
 /// Accesses of all lines, and the answer and the buffer of the last one.
 fn joined(outcomes: &str) -> String {
@@ -42,45 +16,29 @@ fn joined(outcomes: &str) -> String {
 }
 
 #[test]
-fn cut_anywhere_by_the_words() {
-    for (call, words) in CALLS {
-        let whole = joined(&uncut(call, words));
-        for first in 0..words.len() {
-            for second in first..words.len() {
-                let parts = [&words[..first], &words[first..second], &words[second..]];
-                let [a, b, c] = parts.map(|part| part.join(" "));
-                let script = format!("{call} | {a}\nbl resume | {b}\nbl resume | {c}");
-                assert_eq!(joined(&played(Document, &script)), whole, "{script}");
-                assert_eq!(played(Document, &script), played(Rust, &script));
-            }
+fn cut_anywhere() {
+    for scene in scenes() {
+        let whole = joined(&played(Document, &scene.whole));
+        for script in scene.cut {
+            let cut = played(Document, &script);
+            assert_eq!(joined(&cut), whole, "{script}");
+            assert_eq!(cut, played(Rust, &script));
+            // Each line but the last parks where it is cut.
+            let (parked, full) = (script.lines().count() - 1, script.matches(" log=").count());
+            assert_eq!(cut.matches("\n= 10\n").count(), full, "{script}");
+            assert_eq!(cut.matches("\n= 9\n").count(), parked - full, "{script}");
         }
     }
 }
 
 #[test]
-fn cut_anywhere_by_the_log() {
-    for (call, words) in CALLS {
-        let outcomes = uncut(call, words);
-        let whole = joined(&outcomes);
-        let accesses: Vec<_> = outcomes
-            .lines()
-            .filter(|line| line.starts_with(['R', 'W']))
-            .collect();
-        for fit in 0..accesses.len() {
-            let taken = accesses[..fit]
-                .iter()
-                .filter(|line| line.starts_with('R'))
-                .count();
-            let (all, rest) = (words.join(" "), words[taken..].join(" "));
-            for places in [2 * fit, 2 * fit + 1] {
-                let script = format!("{call} log={places} | {all}\nbl resume | {rest}");
-                let cut = played(Document, &script);
-                assert!(cut.contains("\n= 10\n"), "{script}");
-                assert_eq!(joined(&cut), whole, "{script}");
-            }
-        }
-        let just = format!("{call} log={} | {}", 2 * accesses.len(), words.join(" "));
-        assert_eq!(joined(&played(Document, &just)), whole, "{just}");
+fn a_log_of_just_enough_places() {
+    for scene in scenes() {
+        let outcomes = played(Document, &scene.whole);
+        let accesses = without(&outcomes, &['>', '=', 'B']).lines().count();
+        let lent = |places: usize| scene.whole.replace(" |", &format!(" log={places} |"));
+        assert_eq!(played(Document, &lent(2 * accesses)), outcomes);
+        assert!(last(Document, &lent(2 * accesses - 1)).ends_with("= 10\n"));
     }
 }
 

@@ -17,7 +17,7 @@ returns c = let good = sym c.lengths.ensures ∙ c.if-not-lengths.false in
       outcome_right c.args.send.now (begun c.args.kind c.args.address n m) c.args.receive.now c.args.words.now (length c.args.log.now / 2) (right_begun c.args.kind c.args.address n m good),
       ← c.opening.ensures,
     )
-    c.run_call.ensures
+    c.transfer.ensures
 
 pub returns-then-not-lengths : goal.returns-then-not-lengths
 returns-then-not-lengths c = rw (call_bad c.args.kind c.args.address c.args.send.now c.args.receive.now c.args.words.now (length c.args.log.now / 2) (sym c.lengths.ensures ∙ c.if-not-lengths.true), c.ends_at_once.ensures)

@@ -10,4 +10,4 @@ returns-then-wrong c = rw (outcome_wrong c.args.send.now c.args.call c.args.rece
     (record { answer = refl; parked = refl; taken = refl; logged = refl; entries = refl; buffer = refl })
 
 pub returns : goal.returns
-returns c = rw (outcome_right c.args.send.now c.args.call c.args.receive.now c.args.words.now (length c.args.log.now / 2) (sym c.wrong.ensures ∙ c.if-wrong.false)) c.run_call.ensures
+returns c = rw (outcome_right c.args.send.now c.args.call c.args.receive.now c.args.words.now (length c.args.log.now / 2) (sym c.wrong.ensures ∙ c.if-wrong.false)) c.transfer.ensures
