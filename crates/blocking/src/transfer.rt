@@ -223,7 +223,7 @@ fn wait(p: Progress, words: &[u32], log: &mut [u32]) -> Result<Progress, End>
     })
 }
 
-// One access, by the definition's of what the call wants; or why none is made.
+// One access, whichever the call wants by the definition; or why none is made.
 #[inline(always)]
 fn advance(
     p: Progress,

@@ -5,7 +5,6 @@ use mathlib.Core.Bool.{Bool, true, false}
 use mathlib.Core.List.{List, [], ◌∷◌, ◌++◌, append_assoc, append-nil}
 use native.Mathlib.Nat.{add-zero, zero-add}
 use native.Mathlib.Numerals.{one-add}
-use native.Mathlib.Omega.{arith}
 use lib.ListN.{length, drop}
 use Rattle.std.specs.Prelude.{Result, Ok, Err}
 use Rattle.registers.specs.Answers.{Said, says}
@@ -24,13 +23,10 @@ use Rattle.parked.specs.Kinds.{lengths}
 use Rattle.blocking_meaning.specs.Run.{RunOutcome, without_access, joined, with_byte, step, full, next, runs, run_outcome, called}
 use Rattle.blocking_meaning.specs.CutLaw.{Cut, accesses, unless_ended, cut_runs, growing_runs, all_words, Spare, CutLaw}
 use Rattle.parked.proofs.HandedOn.{access_at_lem}
-use Rattle.blocking_meaning.proofs.OneAccess.{run_over, run_out, full_read, full_write, outcome_wrong, outcome_right}
+use Rattle.blocking_meaning.proofs.OneAccess.{some, run_over, run_out, full_read, full_write, outcome_wrong, outcome_right}
 use Rattle.blocking_meaning.proofs.Grows.{grown_from_first}
 use Rattle.blocking_meaning.proofs.Joins.{cut}
 use Rattle.blocking_meaning.proofs.Sound.{Sound, kept_run, right, sound_of}
-
-some : (w : ℕ) (ws : List ℕ) → length (w ∷ ws) ≡ 0 → ⊥
-some w ws e = omega arith
 
 -- a run stops for a reason: with no more words, and no room that makes a difference, the call stays where it is
 abbrev Stays : List ℕ → ℕ → List ℕ → RunOutcome → Type 0

@@ -4,8 +4,7 @@ use mathlib.Core.Path.{◌≡◌, refl, sym, ap, ◌∙◌}
 use mathlib.Core.List.{List, [], ◌∷◌, ◌++◌}
 use native.Mathlib.Nat.{zero-add, suc-add}
 use native.Mathlib.Numerals.{one-add}
-use native.Mathlib.Omega.{arith}
-use lib.ListN.{length, drop}
+use lib.ListN.{drop}
 use Rattle.std.specs.Prelude.{Result, Ok, Err}
 use Rattle.registers.specs.Answers.{Said, says}
 use Rattle.parked.specs.declared.phases.End.{End}
@@ -16,7 +15,7 @@ use Rattle.parked.specs.BusyWait.{answer}
 use Rattle.parked.specs.After.{after}
 use Rattle.blocking_meaning.specs.Run.{RunOutcome, without_access, joined, with_byte, step, full, next, runs}
 use Rattle.blocking_meaning.specs.CutLaw.{accesses}
-use Rattle.blocking_meaning.proofs.OneAccess.{joined-none, joined_joined, run_read, run_write}
+use Rattle.blocking_meaning.proofs.OneAccess.{some, joined-none, joined_joined, run_read, run_write}
 
 -- `q` is the run over `ws`. The run over those words and more, with room for k accesses more, is `q` and then the run from where it parked
 abbrev pub Joins : List ℕ → ℕ → Parked → List ℕ → List ℕ → List ℕ → RunOutcome → Type 0
@@ -30,9 +29,6 @@ fully s k p b (Err a) ws us = stops s k p b ws us (answer a p)
 fully s k p b (Ok (Read o e)) [] us = stops s k p b [] us (says 9 [])
 fully s k p b (Ok (Read o e)) (w ∷ ws) us = stops s k p b (w ∷ ws) us (says 10 [])
 fully s k p b (Ok (Write o w)) ws us = stops s k p b ws us (says 10 [])
-
-some : (w : ℕ) (ws : List ℕ) → length (w ∷ ws) ≡ 0 → ⊥
-some w ws e = omega arith
 
 steps : (s : List ℕ) (n k : ℕ) (us : List ℕ) → ((p : Parked) (b ws : List ℕ) → Joins s k p b ws us (runs s n p b ws))
     → (p : Parked) (b : List ℕ) (m : Result Next End) → next s p ≡ m → (ws : List ℕ) → Joins s k p b ws us (step m ws p b (runs s n))

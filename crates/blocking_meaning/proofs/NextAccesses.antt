@@ -3,7 +3,6 @@ use Prim.Native.Nat.{ℕ}
 use mathlib.Core.Path.{◌≡◌, refl, ◌∙◌}
 use mathlib.Core.Bool.{true}
 use mathlib.Core.List.{List, ◌∷◌}
-use native.Mathlib.Omega.{arith}
 use lib.ListN.{length, get_or}
 use Rattle.std.specs.Prelude.{is_err}
 use Rattle.parked.specs.declared.phases.Phase.{Phase}
@@ -14,10 +13,7 @@ use Rattle.parked.specs.NextAccess.{access_at, next_access}
 use Rattle.parked.specs.Refusals.{is_nothing, ended, wrong}
 use Rattle.blocking_meaning.specs.Run.{next}
 use Rattle.blocking_meaning.specs.NextLaw.{NextLaw}
-use Rattle.blocking_meaning.proofs.OneAccess.{run_out, full_read, full_write, run_read, run_write, outcome_wrong, outcome_right}
-
-some : (w : ℕ) (ws : List ℕ) → length (w ∷ ws) ≡ 0 → ⊥
-some w ws e = omega arith
+use Rattle.blocking_meaning.proofs.OneAccess.{some, run_out, full_read, full_write, run_read, run_write, outcome_wrong, outcome_right}
 
 -- an end is named exactly at the phase of a call that has ended
 end_at : (f : Phase) (p : Parked) (byte : ℕ) → is_err (access_at f p byte) ≡ is_nothing (count_effect f)

@@ -22,6 +22,10 @@ joined-none q = rw zero-add
 pub joined_joined : (t u : ℕ) (l m : List ℕ) (q : RunOutcome) → joined t l (joined u m q) ≡ joined (t + u) (l ++ m) q
 joined_joined t u l m q = rw (add_assoc, append_assoc)
 
+-- a list with a word is not empty
+pub some : (w : ℕ) (ws : List ℕ) → length (w ∷ ws) ≡ 0 → ⊥
+some w ws e = omega arith
+
 module _ (s : List ℕ) (p : Parked) (b : List ℕ) where
   pub run_over : (n : ℕ) (ws : List ℕ) (e : End) → next s p ≡ Err e → runs s n p b ws ≡ without_access (answer e p) p b
   unfolding runs

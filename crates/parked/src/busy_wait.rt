@@ -43,7 +43,7 @@ impl Wanted {
 
     // What a wait finds: the wanted flag, else the first of the others, in the order of `busy_wait`.
     #[tactic(auto, unfolding(crate::specs::BusyWait::found_in))]
-    pub fn found_in(self, isr: u32) -> Option<Found>
+    fn found_in(self, isr: u32) -> Option<Found>
         ensures { result ≡ found_in isr self }
     {
         // One line for each flag, in the order of the wait: a table of the flags and a search in it say no more.
@@ -78,7 +78,7 @@ impl Parked {
 
     // The flag that is waited for.
     #[tactic(auto, unfolding(crate::specs::BusyWait::wanted))]
-    pub fn wanted(self) -> Wanted
+    fn wanted(self) -> Wanted
         ensures { result ≡ wanted self }
     {
         if self.kind.incoming() {

@@ -68,7 +68,7 @@ impl Kind {
     }
 
     // Whether it restarts once its bytes are sent.
-    pub fn restarts(self) -> bool
+    pub(crate) fn restarts(self) -> bool
         ensures { result ≡ restarts self }
     {
         self == Kind::WriteRead
