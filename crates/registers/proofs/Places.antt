@@ -1,8 +1,9 @@
--- Document 01's list of fields once more: the first bit and the width of each, register by register. A field that no word is formed with, as
--- ADD10, stands in few contracts.
+-- Document 01's list of fields once more: the first bit and the width of each, register by register. ADD10, with which no word is formed, stands in
+-- no contract, so its constant is held here.
 use Prim.Native.Nat.{ℕ}
 use mathlib.Core.Path.{◌≡◌, refl}
 use mathlib.Core.List.{[], ◌∷◌, map}
+use Rattle.registers.specs.declared.cr2.TheConstants.Cr2
 use Rattle.registers.specs.Layout.{Name, field_of}
 use Rattle.registers.specs.Layout.{PE, TXIE, RXIE, ADDRIE, NACKIE, STOPIE, TCIE, ERRIE, DNF, ANFOFF, SBC}
 use Rattle.registers.specs.Layout.{SADD, RD-WRN, ADD10, START, STOP, NACK, NBYTES, RELOAD, AUTOEND}
@@ -32,3 +33,7 @@ isr = refl
 
 bytes : map at (RXDATA ∷ TXDATA ∷ []) ≡ (0, 8) ∷ (0, 8) ∷ []
 bytes = refl
+
+-- the code's own ADD10
+add10_lem : Cr2.ADD10 ≡ field_of ADD10
+add10_lem = refl

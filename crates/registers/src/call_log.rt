@@ -51,8 +51,9 @@ pub fn word_at(words: &[u32], place: usize) -> u32
     words.get(place).copied().unwrap_or(0)
 }
 
-// Entries to the log, from its first place on; none where they do not all fit.
-#[tactic(auto, using(crate::proofs::Over::over_front))]
+// Entries to the log, from its first place on; none where they do not all fit. One by one: as a copied slice two entries go through the stack, and a check
+// that logs no more takes twice the time.
+#[tactic(auto, using(crate::proofs::Over::over_suc))]
 pub fn write_log(log: &mut [u32], entries: &[u32]) -> Result<(), Refusal>
     ensures logged { Logged entries.now log.old (is_ok result) log.new }
     ensures full { IfErr result (λ refusal. refusal ≡ Refusal.LogFull) }
@@ -60,7 +61,9 @@ pub fn write_log(log: &mut [u32], entries: &[u32]) -> Result<(), Refusal>
     if log.len() < entries.len() {
         return Err(Refusal::LogFull);
     }
-    log[..entries.len()].copy_from_slice(entries);
+    for (place, entry) in entries.iter().enumerate() {
+        log[place] = *entry;
+    }
     Ok(())
 }
 

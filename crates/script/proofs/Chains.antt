@@ -1,17 +1,16 @@
--- What `filter`, `take_while` and `skip_while` give, and what `extend` makes of it. The steps are read off the call's clause `runs`: in a chain of two closures antt does not find them from what the call returned.
-use Rattle.std.proofs.Common.{◌≡◌, ℕ, ◌<◌, Bool, false, List, [], ◌++◌, Option, Some, Result, Ok, Err, Bor, filter, take, drop, map, length, OnErr, MatchResult, refl, sym, ap, ◌∙◌, arith}
+-- What `take_while` and `skip_while` give, and what `extend` makes of it. The steps are read off the call's clause `runs`.
+use Rattle.std.proofs.Common.{◌≡◌, ℕ, ◌<◌, Bool, false, List, [], ◌++◌, Option, Some, Result, Ok, Err, Bor, take, drop, map, length, OnErr, MatchResult, refl, sym, ap, ◌∙◌, arith}
 use Rattle.std.specs.Fn.{CalledAt}
 use Rattle.arrayvec.specs.ArrayVec.{ArrayVec, array_vec_len, Extends}
 use Rattle.std.specs.Iterator.{ExtendsWithItems, YieldsThen}
-use Rattle.std.specs.Iterator.Adapters.{filter_source, filter_callee, filter_steps, take_while_source, take_while_callee, take_while_done, take_while_steps, skip_while_source, skip_while_callee, skip_while_done_skipping, skip_while_steps}
-use Rattle.std.specs.Iterator.Runs.{EachRunFrom, SomeRun, IsFilterRun, IsTakeWhileRun, IsSkipWhileRun}
+use Rattle.std.specs.Iterator.Adapters.{take_while_source, take_while_callee, take_while_done, take_while_steps, skip_while_source, skip_while_callee, skip_while_done_skipping, skip_while_steps}
+use Rattle.std.specs.Iterator.Runs.{EachRunFrom, SomeRun, IsTakeWhileRun, IsSkipWhileRun}
 use Rattle.std.specs.List.{prefix_len}
-use Rattle.std.specs.declared.iter.Filter.{Filter}
 use Rattle.std.specs.declared.iter.TakeWhile.{TakeWhile}
 use Rattle.std.specs.declared.iter.SkipWhile.{SkipWhile}
 use Rattle.std.proofs.lemmas.Iterator.{YieldsList}
 use Rattle.std.proofs.lemmas.Iterator.Adapters.{YieldsList-from_skip_while, fact_from_extend}
-use Rattle.std.proofs.lemmas.Iterator.Consumers.{YieldsList-at, YieldsList-from_filter, YieldsList-turn}
+use Rattle.std.proofs.lemmas.Iterator.Consumers.{YieldsList-at, YieldsList-turn}
 use Rattle.std.proofs.lemmas.Iterator.Search.{YieldsList-from_take_while}
 use denote.Param.Members.{Mut}
 
@@ -30,11 +29,6 @@ extended (Err x) old new most chain empty ran full one_more =
     omega arith
 
 module _ {S A B F : Type 0} {steps : S → Option A → S → Type 0} {v : A → B} {ys : List B} {g : Mut F (Bor A × Unit {0}) Bool} {f : F} {source : S} (test : B → Bool) where
-  pub YieldsList-filter : {s : Filter S F} → EachRunFrom (filter_steps steps g) s (λ u. SomeRun steps source (λ q. IsFilterRun u q g f)) → YieldsList steps v source ys
-      → filter_source s ≡ source → filter_callee s ≡ f → ((x : A) (b : Bool) (q : F) → CalledAt g f x b q → (q ≡ f) × (b ≡ test (v x)))
-      → YieldsList (filter_steps steps g) v s (filter test ys)
-  YieldsList-filter runs chain from closure computes = YieldsList-from_filter g test (YieldsList-at from chain) closure computes
-
   pub YieldsList-take_while : {s : TakeWhile S F} → EachRunFrom (take_while_steps steps g) s (λ u. SomeRun steps source (λ q. IsTakeWhileRun u q g f)) → YieldsList steps v source ys
       → take_while_source s ≡ source → take_while_callee s ≡ f → take_while_done s ≡ false → ((x : A) (b : Bool) (q : F) → CalledAt g f x b q → (q ≡ f) × (b ≡ test (v x)))
       → YieldsList (take_while_steps steps g) v s (take (prefix_len test ys) ys)

@@ -1,5 +1,7 @@
 pub mod Accesses
 pub mod Chains
+pub mod Cuts
+pub mod Digits
 pub mod Filling
 pub mod Padded
 pub mod Pairs

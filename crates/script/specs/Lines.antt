@@ -1,5 +1,5 @@
 -- What stands in a line: its tokens, the words after the call, and the places of the log.
-use Rattle.std.specs.Prelude.{◌≡◌, ◌≤◌, ◌<◌, ◌-◌, ◌^◌, ℕ, Bool, bytes_eq, not, nat_eq, ◌==◌, Option, None, Some, List, length, filter, map, drop, slice_get, All, codes, if◌then◌else◌}
+use Rattle.std.specs.Prelude.{◌≡◌, ◌≢◌, ◌≤◌, ◌<◌, ◌-◌, ◌^◌, ℕ, Bool, bytes_eq, not, nat_eq, ◌==◌, Option, None, Some, MatchOption, List, length, filter, map, take, drop, get_or, slice_get, All, codes, if◌then◌else◌}
 use Rattle.std.specs.List.{slice_split, before_first, after_first, starts_with}
 use Rattle.std.specs.Option.{option_and_then}
 use Rattle.std.specs.Str.Parse.{digits_value}
@@ -8,6 +8,17 @@ use Rattle.script.specs.Numbers.{IsNumber}
 -- tokens are separated by one or more spaces
 abbrev pub tokens_of : List ℕ → List (List ℕ)
 tokens_of line = filter (λ token. not (length token == 0)) (slice_split (λ byte. byte == 32) line)
+
+-- where the first token begins: at the first character that is no space
+abbrev pub StartsToken : List ℕ → Option ℕ → Type 0
+StartsToken text found =
+    MatchOption found (All (λ byte. byte ≡ 32) text)
+    (λ place. (place < length text) × (get_or text place 32 ≢ 32) × All (λ byte. byte ≡ 32) (take place text))
+
+-- how long a token is that begins the text: to the first space, or to the end
+abbrev pub EndsToken : List ℕ → ℕ → Type 0
+EndsToken text count =
+    (count ≤ length text) × All (λ byte. byte ≢ 32) (take count text) × (count < length text → get_or text count 32 ≡ 32)
 
 abbrev pub is_bar : List ℕ → Bool
 is_bar token = bytes_eq token (codes "|")

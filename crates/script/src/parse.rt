@@ -1,7 +1,8 @@
 // From a line to its call.
 
 ghost use Rattle.std.specs.Prelude.{◌≡◌, IsUtf8, ◌<◌, OnSome, IfSome, MatchOption, length, map};
-ghost use Rattle.script.specs.Lines.{word_tokens, AreWords, values_of, call_tokens, log_of, ArePlaces};
+ghost use Rattle.std.specs.Iterator.{YieldsFirstRef, item_count};
+ghost use Rattle.script.specs.Lines.{tokens_of, StartsToken, EndsToken, word_tokens, AreWords, values_of, call_tokens, log_of, ArePlaces};
 
 use crate::calls::Call;
 use crate::items::call;
@@ -30,11 +31,49 @@ pub fn parse<'a>(line: &'a [u8], words: &mut Words) -> Option<Line<'a>>
     with_log(items.as_slice())
 }
 
+// The tokens of a text, one after another. A `split` would give an empty one for each further space.
+#[derive(Drop)]
+struct Tokens<'a> {
+    rest: &'a str,
+}
+
+impl<'a> Iterator for Tokens<'a> {
+    type Item = &'a str;
+
+    ghost next_gives = { YieldsFirstRef (λ tokens. tokens_of tokens.rest.now) };
+
+    ghost remaining = { item_count (λ tokens. tokens_of tokens.rest.now) };
+
+    fn next(&mut self) -> Option<&'a str> {
+        let start = token_start(self.rest.as_bytes())?;
+        let text = &self.rest[start..];
+        let (token, rest) = text.split_at(token_length(text.as_bytes()));
+        self.rest = rest;
+        Some(token)
+    }
+}
+
+// Where the first token begins.
+fn token_start(text: &[u8]) -> Option<usize>
+    ensures { StartsToken text.now result }
+{
+    text.iter().position(|&byte| byte != b' ')
+}
+
+// How long a token is that begins the text.
+fn token_length(text: &[u8]) -> usize
+    ensures { EndsToken text.now result }
+{
+    text.iter()
+        .position(|&byte| byte == b' ')
+        .unwrap_or(text.len())
+}
+
 // The tokens before the first `|`. No call has more than 16.
 fn call_items(line: &str) -> Option<ArrayVec<&str, 16>>
     ensures { MatchOption result (16 < length (call_tokens line.now)) (λ items. map (λ item. item.now) items.items ≡ call_tokens line.now) }
 {
-    let tokens = line.split(' ').filter(|token| !token.is_empty());
+    let tokens = Tokens { rest: line };
     let mut items = ArrayVec::new();
     items.extend(tokens.take_while(|token| *token != "|")).ok()?;
     Some(items)
@@ -45,7 +84,7 @@ fn put_words(line: &str, words: &mut Words) -> Option<()>
     ensures { MatchOption result (¬ AreWords (word_tokens line.now)) (λ _. AreWords (word_tokens line.now) ×
         (words.new.items ≡ values_of (word_tokens line.now))) }
 {
-    let tokens = line.split(' ').filter(|token| !token.is_empty());
+    let tokens = Tokens { rest: line };
     words.clear();
     for word in tokens.skip_while(|token| *token != "|").skip(1) {
         words.try_push(hex(word)?).ok()?;

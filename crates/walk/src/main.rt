@@ -25,6 +25,8 @@ fn main(rt: HostRuntime) {
     for walk in 0..walks(&rt) {
         if 0 < walk {
             let _ = writeln!(output, "--");
+            // So that it is out before the next walk's words are asked for.
+            output.flush();
         }
         if !run(&mut lines, &mut output) {
             break;

@@ -1,7 +1,7 @@
 // The lines of a call: its accesses, its answer, and bytes.
 
-ghost use Rattle.std.specs.Prelude.{◌≡◌, ◌≤◌, length, take, Some};
-ghost use Rattle.std.specs.Fmt.{WritesOnOk};
+ghost use Rattle.std.specs.Prelude.{◌≡◌, ◌≤◌, ◌%◌, true, length, take, Some};
+ghost use Rattle.std.specs.Fmt.{WritesOnOk, digit_glyph};
 ghost use Rattle.hex.specs.Hex.{encode_upper};
 ghost use Rattle.script.specs.PrintedLines.{bytes_text, access_line, answer_line, reported_text};
 
@@ -62,12 +62,39 @@ impl fmt::Display for Reported<'_> {
     }
 }
 
-// The line of an access.
+// The line of an access. Its fourteen characters are made at once: with `{:02X}` and `{:08X}` a script of many accesses takes two to three times as long.
 fn write_access<W: fmt::Write>(f: &mut fmt::Formatter<W>, number: u32, word: u32) -> fmt::Result
     ensures { WritesOnOk W.write_str_gives f.old result (access_line number word) f.new }
 {
-    let kind = if number < 0x100 { 'R' } else { 'W' };
-    writeln!(f, "{kind} {:02X} {word:08X}", number % 0x100)
+    let line = [
+        if number < 0x100 { b'R' } else { b'W' },
+        b' ',
+        hex_digit(number >> 4),
+        hex_digit(number),
+        b' ',
+        hex_digit(word >> 28),
+        hex_digit(word >> 24),
+        hex_digit(word >> 20),
+        hex_digit(word >> 16),
+        hex_digit(word >> 12),
+        hex_digit(word >> 8),
+        hex_digit(word >> 4),
+        hex_digit(word),
+        b'\n',
+    ];
+    f.write_str(str::from_utf8(&line).unwrap_or_default())
+}
+
+// The digit of a number's low four bits.
+fn hex_digit(number: u32) -> u8
+    ensures { result ≡ digit_glyph true (number % 16) }
+{
+    let value = (number % 16) as u8;
+    if value < 10 {
+        b'0' + value
+    } else {
+        b'A' - 10 + value
+    }
 }
 
 // The line of an answer. The bytes that it shows are the first ones of the data.
